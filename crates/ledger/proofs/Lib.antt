@@ -1,0 +1,12 @@
+pub mod Cases
+pub mod Sizes
+pub mod Readers
+pub mod Writing
+pub mod Refusals
+pub mod Soundness
+pub mod Keeping
+pub mod Totals
+pub mod Found
+pub mod Runs
+pub mod Numbers
+pub mod Ports

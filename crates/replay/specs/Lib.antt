@@ -1,0 +1,3 @@
+pub mod Logs
+pub mod Runs
+pub mod Steps

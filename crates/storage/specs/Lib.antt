@@ -1,0 +1,9 @@
+pub mod Calls
+pub mod Kept
+pub mod Ledgers
+pub mod Meta
+pub mod Openings
+pub mod Registry
+pub mod Slots
+pub mod Views
+pub mod Writes
