@@ -23,7 +23,7 @@ pub struct Feed<E> {
 }
 
 impl<E> Feed<E> {
-    pub fn introduce(&self, rt: &LibcRuntime) -> Result<(), Stop> {
+    pub(crate) fn introduce(&self, rt: &LibcRuntime) -> Result<(), Stop> {
         let topic = self.topic;
         let number = self.channel.instance();
         let size = self.channel.size();
@@ -36,7 +36,7 @@ impl<E> Feed<E> {
     }
 
     // Whether a write would reach anybody.
-    pub fn ask(&self, rt: &LibcRuntime) -> Result<(), Stop> {
+    pub(crate) fn ask(&self, rt: &LibcRuntime) -> Result<(), Stop> {
         let topic = self.topic;
         if self.channel.would_write() {
             println!(rt, "Somebody still reads the {topic}.")?;
@@ -46,14 +46,14 @@ impl<E> Feed<E> {
         Ok(())
     }
 
-    pub fn read(&mut self, id: &mut ReaderId<E>) -> Result<View<'_, E>, Fault> {
+    pub(crate) fn read(&mut self, id: &mut ReaderId<E>) -> Result<View<'_, E>, Fault> {
         let slots = &self.slots[..];
         self.channel.read(slots, id)
     }
 }
 
 impl<E: Copy> Feed<E> {
-    pub fn new(
+    pub(crate) fn new(
         issuer: &mut Issuer,
         topic: Topic,
         size: usize,
@@ -84,19 +84,27 @@ impl<E: Copy> Feed<E> {
         Ok(())
     }
 
-    pub fn write<S: Source<E>>(&mut self, rt: &LibcRuntime, source: &mut S) -> Result<(), Stop> {
+    pub(crate) fn write<S: Source<E>>(
+        &mut self,
+        rt: &LibcRuntime,
+        source: &mut S,
+    ) -> Result<(), Stop> {
         let slots = &mut self.slots[..];
         let answer = self.channel.iter_write(slots, source);
         self.report(rt, answer)
     }
 
-    pub fn write_drain(&mut self, rt: &LibcRuntime, drain: &mut Drain<'_, E>) -> Result<(), Stop> {
+    pub(crate) fn write_drain(
+        &mut self,
+        rt: &LibcRuntime,
+        drain: &mut Drain<'_, E>,
+    ) -> Result<(), Stop> {
         let slots = &mut self.slots[..];
         let answer = self.channel.drain_vec_write(slots, drain);
         self.report(rt, answer)
     }
 
-    pub fn write_one(&mut self, rt: &LibcRuntime, event: E) -> Result<(), Stop> {
+    pub(crate) fn write_one(&mut self, rt: &LibcRuntime, event: E) -> Result<(), Stop> {
         let slots = &mut self.slots[..];
         let answer = self.channel.single_write(slots, event);
         self.report(rt, answer)

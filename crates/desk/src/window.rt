@@ -18,7 +18,7 @@ pub struct Window<E> {
 }
 
 impl<E> Window<E> {
-    pub fn enter(rt: &LibcRuntime, feed: &mut Feed<E>, name: Reader) -> Result<Self, Stop> {
+    pub(crate) fn enter(rt: &LibcRuntime, feed: &mut Feed<E>, name: Reader) -> Result<Self, Stop> {
         let id = feed.channel.register_reader()?;
         let number = id.number();
         let at = feed.topic;
@@ -31,7 +31,7 @@ impl<E> Window<E> {
         }
     }
 
-    pub fn leave(self, rt: &LibcRuntime, feed: &mut Feed<E>) -> Result<(), Stop> {
+    pub(crate) fn leave(self, rt: &LibcRuntime, feed: &mut Feed<E>) -> Result<(), Stop> {
         let Window { name, id } = self;
         let number = id.number();
         if let Err((fault, id)) = feed.channel.close(id) {
@@ -52,7 +52,7 @@ impl<E> Window<E> {
 
 impl<E: Copy + Says> Window<E> {
     // Reads, and prints what came.
-    pub fn show(&mut self, rt: &LibcRuntime, feed: &mut Feed<E>) -> Result<(), Stop> {
+    pub(crate) fn show(&mut self, rt: &LibcRuntime, feed: &mut Feed<E>) -> Result<(), Stop> {
         let name = self.name;
         let at = feed.topic;
         let view = match feed.read(&mut self.id) {
@@ -72,7 +72,7 @@ impl<E: Copy + Says> Window<E> {
     }
 
     // Reads from one feed, and writes what came into another.
-    pub fn forward(
+    pub(crate) fn forward(
         &mut self,
         rt: &LibcRuntime,
         from: &mut Feed<E>,

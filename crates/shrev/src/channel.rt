@@ -68,7 +68,7 @@ impl<E> EventChannel<E> {
     {
         let number = self.ring.new_reader_id()?;
         Ok(ReaderId {
-            instance: self.ring.instance(),
+            instance: self.instance(),
             number,
             kind: PhantomData,
         })
@@ -80,7 +80,7 @@ impl<E> EventChannel<E> {
         ensures rest { λ _. ⌜ Same-but-readers (now (self .entry) .ring) (now (self .exit) .ring) ⌝ }
         ensures refused { λ r. ⌜ Handed-back r id (now (self .entry)) (now (self .exit)) ⌝ }
     {
-        if id.instance != self.ring.instance() {
+        if id.instance != self.instance() {
             return Err((Fault::OtherChannel, id));
         }
         match self.ring.close(id.number) {
@@ -100,10 +100,10 @@ impl<E> EventChannel<E> {
         ensures runs { λ r. ⌜ Reads-runs r (now (self .entry) .ring) (now (slots .entry)) (now (id .entry) .number) ⌝ }
         ensures id { λ _. ⌜ now (id .exit) ≡ now (id .entry) ⌝ }
     {
-        if slots.len() != self.ring.slot_count() {
+        if slots.len() != self.slot_count() {
             return Err(Fault::OtherSlots);
         }
-        if id.instance != self.ring.instance() {
+        if id.instance != self.instance() {
             return Err(Fault::OtherChannel);
         }
         self.ring.read(slots, id.number)
