@@ -1,0 +1,10 @@
+pub mod Bodies
+pub mod Fields
+pub mod Letters
+pub mod Pastes
+pub mod Rests
+pub mod Spaced
+pub mod Spells
+pub mod Starts
+pub mod Tells
+pub mod Words
