@@ -135,14 +135,6 @@ module _ (last size generation g : ℕ) (r : Reader) where
       let same : r .generation ≡ generation = sym (shifted-generation last generation g r) ∙ e in
       ap (λ (x : Reader). x .place) (grown-read (agree same) same) ∙ agree same
 
-  -- what waits stays as it was
-  pub unread-grown : last < size → r .place < size → 1 ≤ g → r .live ≡ true → (r .generation ≡ generation → r .place ≡ last)
-      → unread last (size + g) generation (shifted last generation g r) ≡ unread last size generation r
-  unread-grown l p more lv agree =
-      let before = unread-distance last size generation r l p agree in
-      let after = unread-distance last (size + g) generation (shifted last generation g r) (omega arith) (place-grown p) (agree-grown agree) in
-      let rise = distance-grown l p more lv in omega arith
-
 -- n events stored
 
 -- the last place has come up to the place of a reader with news, or not quite
@@ -171,12 +163,3 @@ distance-stored last size was generation n r l p some = by-place last size was r
     (λ same e le ne. absurd (omega arith))
     (λ lt le ne. let on : last + n < size = omega arith in rw (mod-eq-of-lt on) (reached (last + n) size generation (r .place - last - n) r (omega arith) p ne (omega arith)))
     (λ lt le ne. wrapped last size generation n r l (omega arith) ne some le)
-
--- and n more wait
-pub unread-stored : (last size was generation n : ℕ) (r : Reader) → last < size → r .place < size → 1 ≤ n → n ≤ distance last size was r → r .generation ≢ generation
-    → (r .generation ≡ was → r .place ≡ last) → unread ((last + n) % size) size generation r ≡ unread last size was r + n
-unread-stored last size was generation n r l p some le ne agree =
-    let some-size : 0 < size = omega arith in
-    let before = unread-distance last size was r l p agree in
-    let after = unread-distance ((last + n) % size) size generation r (mod-lt (last + n) some-size) p (λ e. absurd (ne e)) in
-    let fall = distance-stored last size was generation n r l p some le ne in omega arith

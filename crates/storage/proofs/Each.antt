@@ -14,6 +14,7 @@ use Rattle.storage.specs.Kept.{lag, Ahead, Bounded, Lags, Level}
 use Rattle.storage.specs.Meta.{fresh, closed, Places, Whole, Stack, Apart, Sound, Alloc, no-readers, removed, advanced}
 use Rattle.storage.specs.Registry.{blank, distance, Live}
 use Rattle.storage.proofs.Distances.{distance-fresh}
+use Rattle.storage.proofs.Generations.{lag-none}
 use Rattle.storage.proofs.Keeps.{new-sound, alloc-sound, removed-sound, advanced-sound}
 
 -- every open reader has P
@@ -42,8 +43,7 @@ module _ (last size generation available : ℕ) where
   pub fresh-fine : last < size → available ≤ size → generation < 2 ^ 64 → Fine (fresh last generation)
   fresh-fine below spare fits =
       let far = distance-fresh last size generation below in
-      let round : generation + 2 ^ 64 - generation ≡ 2 ^ 64 = omega arith in
-      let none : lag generation generation ≡ 0 = ap (λ n. n % 2 ^ 64) round in
+      let none = lag-none generation fits in
       record { ahead = omega arith; place = below; bounded = fits; lags = omega arith; level = λ _. refl }
 
   -- the same of a table, fact by fact in the order of the ring's record
