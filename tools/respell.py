@@ -362,10 +362,11 @@ TOKEN = re.compile(r"[^\s(){}\[\].,;:λ`\"]+")
 
 
 def respelled(line, comment):
-    """The line with each name of the table respelled, up to the comment that the mark begins."""
+    """The line with each name of the table respelled, and names unquoted, up to the comment that the mark begins."""
     start = re.search(r"(?:^|\s)" + comment + r"(?:\s|$)", line)
     end = start.start() if start else len(line)
-    return TOKEN.sub(lambda m: TABLE.get(m.group(), m.group()), line[:end]) + line[end:]
+    text = re.sub("«(?!record»)([^»]*)»", r"\1", line[:end])
+    return TOKEN.sub(lambda m: TABLE.get(m.group(), m.group()), text) + line[end:]
 
 
 def main():

@@ -1,6 +1,6 @@
 ghost use Rattle.std.specs.Prelude.{◌≡◌, ◌*◌, ◌≤◌, length};
 ghost use Rattle.replay.specs.Runs.{state};
-ghost use Rattle.replay.specs.Logs.{events, «Logged-all», desk, Replays};
+ghost use Rattle.replay.specs.Logs.{events, LoggedAll, desk, Replays};
 
 use crate::step::step;
 use crate::words::{Call, NotRun, Note, Replayed};

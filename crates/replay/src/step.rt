@@ -1,9 +1,9 @@
 ghost use Rattle.std.specs.Prelude.{◌≡◌, ◌+◌, ◌≤◌, List, length, take, drop, Some, ◌≢◌};
 ghost use Rattle.ledger.specs.Ledger.Call.{write as writing, read as reading};
-ghost use Rattle.shrev.specs.Channels.{«ledger-of»};
-ghost use Rattle.replay.specs.Runs.{replies, state, «registers-at», «reads_at», «closes_at», IdsRegistered, «ids-closed», Drawn, Unmoved};
+ghost use Rattle.shrev.specs.Channels.{ledger_of};
+ghost use Rattle.replay.specs.Runs.{replies, state, registers_at, reads_at, closes_at, IdsRegistered, ids_closed, Drawn, Unmoved};
 ghost use Rattle.replay.specs.Logs.{noted, events, Logged};
-ghost use Rattle.replay.specs.Steps.{«with-slots»};
+ghost use Rattle.replay.specs.Steps.{with_slots};
 
 use crate::words::{Call, Note};
 use shrev::channel::EventChannel;

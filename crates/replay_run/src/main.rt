@@ -1,4 +1,4 @@
-ghost use Rattle.replay_run.specs.Batches.{«batch-means»};
+ghost use Rattle.replay_run.specs.Batches.{batch_means};
 
 use replay::run::replay;
 use replay::words::{Call, NotRun, Note, Replayed};

@@ -2,10 +2,10 @@ ghost use Rattle.std.specs.Prelude.{◌≡◌, ℕ, List, length};
 ghost use Rattle.script.specs.Lines.{rendered, shown, Put, opened as opening, refused as refusing};
 ghost use Rattle.script.specs.Parsed.{meant};
 ghost use Rattle.script.specs.Records.{numbers};
-ghost use Rattle.script.specs.Records.Record.{register as registering, «would-write» as asking, write as writing, read as reading, close as closing};
-ghost use Rattle.source.specs.Faults.{«number_of»};
-ghost use Rattle.storage.specs.Ledgers.{«ledger-of»};
-ghost use Rattle.runner.specs.Sessions.{answered, «slot-count»};
+ghost use Rattle.script.specs.Records.Record.{register as registering, would_write as asking, write as writing, read as reading, close as closing};
+ghost use Rattle.source.specs.Faults.{number_of};
+ghost use Rattle.storage.specs.Ledgers.{ledger_of};
+ghost use Rattle.runner.specs.Sessions.{answered, slot_count};
 
 use script::line::Line;
 use script::mark::Mark;

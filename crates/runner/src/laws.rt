@@ -1,4 +1,4 @@
-ghost use Rattle.runner.specs.Laws.{«Longer-keeps», «Text-tells»};
+ghost use Rattle.runner.specs.Laws.{LongerKeeps, TextTells};
 
 // Laws over whole sessions. Nothing is computed; the statements are proved for every session.
 

@@ -1,8 +1,8 @@
 ghost use Rattle.std.specs.Prelude.{◌≡◌, ◌≤◌, length, Some};
 ghost use Rattle.ledger.specs.Ledger.{fresh};
-ghost use Rattle.source.specs.Faults.{«number_of»};
-ghost use Rattle.runner.specs.Runs.{Runs, Begins, Carries, «fault-of»};
-ghost use Rattle.runner.specs.Sessions.{«slot-count»};
+ghost use Rattle.source.specs.Faults.{number_of};
+ghost use Rattle.runner.specs.Runs.{Runs, Begins, Carries, fault_of};
+ghost use Rattle.runner.specs.Sessions.{slot_count};
 
 use crate::call::{opened, refused, step};
 use script::check::{ScriptFault, check};

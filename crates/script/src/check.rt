@@ -1,6 +1,6 @@
-ghost use Rattle.script.specs.Known.{«Known-faults», «Known-lines»};
+ghost use Rattle.script.specs.Known.{KnownFaults, KnownLines};
 ghost use Rattle.script.specs.Parsed.{Checked};
-ghost use Rattle.script.specs.Spelling.{«Reads-back»};
+ghost use Rattle.script.specs.Spelling.{ReadsBack};
 
 use crate::record::Record;
 use source::fault::Fault;

@@ -1,7 +1,7 @@
 ghost use Rattle.std.specs.Prelude.{◌≡◌, ◌+◌, ◌≤◌, length, nat_le};
 ghost use Rattle.std.proofs.Math.Seq.{paste};
 ghost use Rattle.script.specs.Lines.{answering, fields, rendered, shown, spaced, Put};
-ghost use Rattle.script.specs.Telling.{«One-feed», «Line-tells», «Lines-tell»};
+ghost use Rattle.script.specs.Telling.{OneFeed, LineTells, LinesTell};
 
 use crate::events::{put_events, room_after};
 use crate::mark::Mark;

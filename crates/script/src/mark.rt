@@ -1,5 +1,5 @@
 ghost use Rattle.std.specs.Prelude.{◌≡◌};
-ghost use Rattle.script.specs.Marks.{«mark_of», letters};
+ghost use Rattle.script.specs.Marks.{mark_of, letters};
 
 // What a record begins with, and the line that answers it.
 #[derive(Clone, Copy, PartialEq, Eq, Debug)]

@@ -1,6 +1,6 @@
 ghost use Rattle.std.specs.Prelude.{◌≡◌};
-ghost use Rattle.script.specs.Parsed.{«read_out»};
-ghost use Rattle.script.specs.Records.{body, numbers, «record_of», «size_of»};
+ghost use Rattle.script.specs.Parsed.{read_out};
+ghost use Rattle.script.specs.Records.{body, numbers, record_of, size_of};
 
 use crate::mark::Mark;
 use source::Source;

@@ -1,8 +1,8 @@
 ghost use Rattle.std.specs.Prelude.{◌≡◌, List, [], ◌∷◌, length};
-ghost use Rattle.ledger.specs.Ledger.{fresh, outcome, «would-write»};
+ghost use Rattle.ledger.specs.Ledger.{fresh, outcome, would_write};
 ghost use Rattle.ledger.specs.Ledger.Call.{register, write, read as reading, close as closing};
-ghost use Rattle.shrev.specs.Channels.{«ledger-of», registers, closes, Unchanged, Registered, HandedBack};
-ghost use Rattle.storage.specs.Calls.{«Same-but-readers», «Reads-runs»};
+ghost use Rattle.shrev.specs.Channels.{ledger_of, registers, closes, Unchanged, Registered, HandedBack};
+ghost use Rattle.storage.specs.Calls.{SameButReaders, ReadsRuns};
 ghost use Rattle.storage.specs.Ledgers.{hands};
 ghost use Rattle.storage.specs.Writes.{Stores, Draws, writes};
 

@@ -1,5 +1,5 @@
 ghost use Rattle.std.specs.Prelude.{◌≡◌, ◌<◌, ◌≤◌, length, take, MatchResult};
-ghost use Rattle.source.specs.Faults.{«number_of»};
+ghost use Rattle.source.specs.Faults.{number_of};
 
 use crate::Source;
 use crate::fault::Fault;

@@ -1,5 +1,5 @@
 ghost use Rattle.std.specs.Prelude.{◌≡◌};
-ghost use Rattle.source.specs.Faults.{«number_of»};
+ghost use Rattle.source.specs.Faults.{number_of};
 
 // Why a call is refused. Each case has a number that users and hosts may rely on.
 #[derive(Clone, Copy, PartialEq, Eq, Debug)]

@@ -1,5 +1,5 @@
 ghost use Rattle.std.specs.Prelude.{◌≡◌, ◌-◌};
-ghost use Rattle.source.specs.Counting.{«up_from»};
+ghost use Rattle.source.specs.Counting.{up_from};
 
 use crate::Source;
 use crate::event::Number;

@@ -1,7 +1,7 @@
 ghost use Rattle.std.specs.Prelude.{◌≡◌, ◌-◌, ◌<◌, ◌≤◌, length, MatchResult};
-ghost use Rattle.source.specs.Faults.{«number_of»};
-ghost use Rattle.source.specs.Legs.{live, «live-legs», «First-live»};
-ghost use Rattle.source.specs.Tickets.{«ticket-rest», «legs-left», Made};
+ghost use Rattle.source.specs.Faults.{number_of};
+ghost use Rattle.source.specs.Legs.{live, live_legs, FirstLive};
+ghost use Rattle.source.specs.Tickets.{ticket_rest, legs_left, Made};
 
 use crate::Source;
 use crate::event::{Leg, TicketEvent};

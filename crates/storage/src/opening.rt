@@ -1,6 +1,6 @@
 ghost use Rattle.std.specs.Prelude.{◌≡◌, ◌-◌, List};
 ghost use Rattle.ledger.specs.Ledger.{fresh};
-ghost use Rattle.storage.specs.Ledgers.{«ledger-of»};
+ghost use Rattle.storage.specs.Ledgers.{ledger_of};
 
 use crate::circular::CircularIndex;
 use crate::grant::Grant;

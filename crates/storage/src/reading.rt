@@ -1,8 +1,8 @@
 ghost use Rattle.std.specs.Prelude.{◌≡◌, length};
 ghost use Rattle.ledger.specs.Ledger.{outcome};
 ghost use Rattle.ledger.specs.Ledger.Call.{read as reading};
-ghost use Rattle.storage.specs.Calls.{«Same-but-readers», Unchanged, «Reads-runs»};
-ghost use Rattle.storage.specs.Ledgers.{«ledger-of», hands};
+ghost use Rattle.storage.specs.Calls.{SameButReaders, Unchanged, ReadsRuns};
+ghost use Rattle.storage.specs.Ledgers.{ledger_of, hands};
 
 use crate::circular::CircularIndex;
 use crate::ring::RingBuffer;

@@ -1,8 +1,8 @@
 ghost use Rattle.std.specs.Prelude.{◌≡◌, List};
-ghost use Rattle.ledger.specs.Ledger.{outcome, «would-write»};
+ghost use Rattle.ledger.specs.Ledger.{outcome, would_write};
 ghost use Rattle.ledger.specs.Ledger.Call.{register, close as closing};
-ghost use Rattle.storage.specs.Calls.{«Same-but-readers», Unchanged};
-ghost use Rattle.storage.specs.Ledgers.{«ledger-of», registers, closes};
+ghost use Rattle.storage.specs.Calls.{SameButReaders, Unchanged};
+ghost use Rattle.storage.specs.Ledgers.{ledger_of, registers, closes};
 
 use crate::ring::RingBuffer;
 use source::fault::Fault;

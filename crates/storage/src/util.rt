@@ -1,5 +1,5 @@
 ghost use Rattle.std.specs.Prelude.{◌≡◌};
-ghost use Rattle.storage.specs.Openings.{Opens, «default-size»};
+ghost use Rattle.storage.specs.Openings.{Opens, default_size};
 
 use crate::grant::Grant;
 use source::fault::Fault;
