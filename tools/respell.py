@@ -206,7 +206,6 @@ not-gave not_gave
 not-misplaced not_misplaced
 not-open not_open
 not-said not_said
-not-true not_true
 notes-past notes_past
 now-size now_size
 number-taken number_taken

@@ -1,5 +1,7 @@
 // Runs the script on standard input, of which it takes the first 65,536 bytes, and writes the finished lines; then, where
 // there is a fault, its number and place.
+#![tactic(auto)]
+
 use std::io;
 use std::io::{Read, Write};
 

@@ -1,4 +1,6 @@
 // A day on a desk: prices and tickets go through channels, and windows read them.
+#![tactic(auto)]
+
 mod feed;
 mod names;
 mod says;

@@ -1,3 +1,5 @@
+#![tactic(auto)]
+
 ghost use Rattle.known.specs.Answers.{KnownAnswers};
 
 // What is known by hand of ten examples is what the definitions yield: the refusals and the ledger for channels, the

@@ -1,6 +1,6 @@
 -- What is refused, and what an accepted call had to meet. Assumes nothing.
 use Rattle.std.proofs.Common.{◌≡◌, ℕ, Bool, true, false, cond, not, ◌&&◌, eqb, ltb, ◌↔◌, length, Some, None, Option, refl, ap, arith}
-use Rattle.std.proofs.lemmas.Bool.{eqb-true, eq-eqb, leb-false, lt-leb, ltb-false, le-ltb, not_true, not-false, not_from_true, not_from_false}
+use Rattle.std.proofs.lemmas.Bool.{eqb-true, eq-eqb, leb-false, lt-leb, ltb-false, le-ltb, not-true, not-false, not_from_true, not_from_false}
 use Rattle.ledger.specs.Ledger.{Ledger, Call, Answer, Opened, opening_refusal, opened, denied, granted, fresh, most_readers, open_count, reader_at, is_open, would_write, after_write, other_slots, other_channel, not_open, refusal, taken, decided, outcome}
 use Rattle.ledger.specs.Ledger.Call.{register, write, read, close}
 use Rattle.ledger.specs.Ledger.Answer.{refused}
@@ -96,7 +96,7 @@ module _ {E : Type 0} where
   suffices l register h = passes _ 4 None (lt-leb most_readers (open_count l.readers) h) refl
   suffices l (write slots new) (a, b, c) =
       passes _ 5 _ (same_number slots l.slots a)
-      (passes _ 8 _ (and_not (not (would_write l)) _ (λ e. le-ltb l.size (length new) (b (not_true _ e))))
+      (passes _ 8 _ (and_not (not (would_write l)) _ (λ e. le-ltb l.size (length new) (b (not-true _ e))))
       (passes _ 9 None (and_not (would_write l) _ (λ e. le-ltb l.slots (after_write l new).size (c e))) refl))
   suffices l (read slots instance n) (a, b, c) = passes _ 5 _ (same_number slots l.slots a) (closes-suffices l instance n (b, c))
   suffices l (close instance n) h = closes-suffices l instance n h

@@ -1,3 +1,5 @@
+#![tactic(auto)]
+
 ghost use Rattle.ledger.specs.Cases.{KnownAnswers};
 ghost use Rattle.ledger.specs.Laws.{SizeRule, SizeLaws, Openings, WouldWrite, Refusals, NumbersGiven, EmptyWrite};
 ghost use Rattle.ledger.specs.Laws.{StaysSound, EachEventOnce, Registrations, ReadersHold, EqualTotals, EqualWaiting, RunIsOneWrite, EqualAfterWrites};

@@ -1,5 +1,7 @@
 // Runs recorded scripts and compares what they print with the recorded lines. Standard input has for each script the
 // line `script` with its bytes in hexadecimal, and below it the lines that are expected.
+#![tactic(auto)]
+
 use runner::run::run;
 use std::alloc::{AllocError, Global};
 use std::io::Read;

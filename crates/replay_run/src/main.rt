@@ -1,3 +1,5 @@
+#![tactic(auto)]
+
 ghost use Rattle.replay_run.specs.Batches.{batch_means};
 
 use replay::run::replay;

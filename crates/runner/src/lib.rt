@@ -1,4 +1,6 @@
 // Runs scripts: the records are read, carried out on a ring, and answered by lines.
+#![tactic(auto)]
+
 mod call;
 pub mod export;
 pub mod laws;

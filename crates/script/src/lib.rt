@@ -1,4 +1,6 @@
 // The parts of a script runner that don't need a ring: scripts are read and checked, lines are written.
+#![tactic(auto)]
+
 pub mod check;
 mod events;
 pub mod line;

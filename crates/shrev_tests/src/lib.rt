@@ -1,5 +1,6 @@
 // The ring and the channel on examples. What holds of every input is in the contracts of the crates `storage` and
 // `shrev`.
+#![tactic(auto)]
 
 #[cfg(test)]
 mod tests {

@@ -1,4 +1,5 @@
 // The sources on examples. What holds of every input is in the contracts of the crate `source`.
+#![tactic(auto)]
 
 #[cfg(test)]
 mod tests {

@@ -1,4 +1,6 @@
 // Turns spread tickets into the events that are sent for them, and prints these beside what was announced.
+#![tactic(auto)]
+
 use source::Source;
 use source::event::{Leg, TicketEvent};
 use source::ticket::Ticket;

@@ -20,9 +20,9 @@ use Rattle.storage.proofs.Lifts.{open_at_of, none_open_of, longest-below, longes
 use Rattle.storage.proofs.Each.{Facts}
 use Rattle.storage.proofs.Waiting.{length-waiting_in}
 
-not_true : (b : Bool) → (b ≡ true → ⊥) → b ≡ false
-not_true true h = absurd (h refl)
-not_true false h = refl
+not-true : (b : Bool) → (b ≡ true → ⊥) → b ≡ false
+not-true true h = absurd (h refl)
+not-true false h = refl
 
 -- a doubled size is at least twice the old one
 pub twice_at_least : (size need : ℕ) → 1 ≤ size → size < need → size + size ≤ size_for size need
@@ -64,7 +64,7 @@ module _ {E : Type 0} (r : RingBuffer E) (slots : List E) (own : length slots �
   pub nobody : Nearest far rs most None → (k : ℕ) → (get_or rs k blank).live ≡ false
   nobody near k =
       ⊎_elim (λ (lt : k < most). near k lt)
-      (λ (le : most ≤ k). not_true (get_or rs k blank).live (λ lv. let w = live-within rs k lv in omega (arith, w, r.whole.3)))
+      (λ (le : most ≤ k). not-true (get_or rs k blank).live (λ lv. let w = live-within rs k lv in omega (arith, w, r.whole.3)))
       (cases_lt k most)
 
   pub nobody_open : Nearest far rs most None → would_write L ≡ false

@@ -1,4 +1,5 @@
 // The ring buffer over supplied slots, its readers, and the issuer of its instance numbers.
+#![tactic(auto)]
 
 pub mod circular;
 mod data;

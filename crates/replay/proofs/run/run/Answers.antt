@@ -11,8 +11,8 @@ step-note-requires g c =
     let a = r.0 in
     omega (arith, c.requires.log, c.loop-i.auto.log, c.loop-i.auto.slots)
 
-pub overflow-add-at : goal.overflow-add-at
-overflow-add-at g c =
+pub overflow_add-at : goal.overflow_add-at
+overflow_add-at g c =
     let h : c.loop-i.i < length c.args.calls.now = c.loop-i-test.true in
     let few : 0 ≤ length c.args.slots.now = omega arith in
     let r = room-more c.loop-i.i (length c.args.calls.now) (length c.args.slots.now) c.loop-i.at 0 h c.loop-i.invariant.0.few few in

@@ -6,6 +6,6 @@ pub returns-in-Write : goal.returns-in-Write
 returns-in-Write g c =
     record {
       logged = logged-write g.S.Source.means g.S.Source.beneath _ _ _ _ _ _ _ _ _ c.in-Write.is
-          c.write-own.ensures.none c.write-own.ensures.told c.write-own.ensures.unmoved refl c.write-own.ensures.source;
+          c.write_own.ensures.none c.write_own.ensures.told c.write_own.ensures.unmoved refl c.write_own.ensures.source;
       others = refl;
     }

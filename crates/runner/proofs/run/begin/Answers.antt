@@ -13,11 +13,11 @@ returns-in-Err c =
     begins_fault c.args.script.now c.args.out.now c.args.out.now c.stopped.result
     (number_of c.in-Err.fault) (sym c.in-Err.ensures)
 
-pub returns-in-default : goal.returns-in-default
-returns-in-default c =
+pub returns-in_default : goal.returns-in_default
+returns-in_default c =
     let r : Ran = record { written = 0; fault = None } in
     begins_otherwise c.args.script.now c.args.out.now c.args.out.now r
-    c.in-Ok.found (sym c.in-Ok.ensures) c.in-default.not-Opening refl refl refl
+    c.in-Ok.found (sym c.in-Ok.ensures) c.in_default.not-Opening refl refl refl
 
 pub returns-in-Ok-put : goal.returns-in-Ok-put
 returns-in-Ok-put c =
@@ -27,10 +27,10 @@ returns-in-Ok-put c =
     begins_opened c.args.script.now c.args.out.now size c.in-Ok.found.1
     (read-opening c.args.script.now c.in-Ok.found c.in-Opening.size size c.in-Ok.ensures c.in-Opening.is c.from-size.ensures)
     (refusal-from c.new.result.next size None start granted.unrefused)
-    c.put.new.out c.carry-on.new.out c.in-Ok-put.written c.carry-on.result
+    c.put.new.out c.carry_on.new.out c.in-Ok-put.written c.carry_on.result
     (put_as (shown c.opened.result) (line.opened size) _ _ (Ok c.in-Ok-put.written) c.opened.ensures c.in-Ok-put.ensures)
     (carries_at c.args.script.now c.in-Ok.found.1 _ _ _ _ _ _
-    (fresh-from c.new.result.next _ _ _ size start granted.instance granted.size granted.slots) c.carry-on.ensures)
+    (fresh-from c.new.result.next _ _ _ size start granted.instance granted.size granted.slots) c.carry_on.ensures)
 
 pub returns-in-Err-put : goal.returns-in-Err-put
 returns-in-Err-put c =

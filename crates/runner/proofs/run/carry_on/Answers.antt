@@ -28,8 +28,8 @@ returns-in-Err-step c =
     c.stopped-in-Err-step.ensures.fault in
     carries_at c.args.script.now c.args.at _ _ _ _ _ _ (c.new-ring.ensures.ledger _) (c.loop-at.invariant.3 c.step.new.out c.stopped-in-Err-step.result rest)
 
-pub overflow-add-at : goal.overflow-add-at
-overflow-add-at c = let size = sized_of c.args.script.now c.loop-at.at _ (sym c.in-Ok.ensures) in omega arith
+pub overflow_add-at : goal.overflow_add-at
+overflow_add-at c = let size = sized_of c.args.script.now c.loop-at.at _ (sym c.in-Ok.ensures) in omega arith
 
 pub loop-at-smaller : goal.loop-at-smaller
 loop-at-smaller c = let size = sized_of c.args.script.now c.loop-at.at _ (sym c.in-Ok.ensures) in omega arith

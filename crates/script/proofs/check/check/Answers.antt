@@ -5,8 +5,8 @@ use Rattle.script.specs.Records.{meaning}
 use Rattle.script.proofs.Rests.{sized_of, rest_fault, rest_more, rest_last, fault-before, passes, fails}
 use Rattle.script.proofs.check.check.Goals as goal
 
-pub overflow-add-at : goal.overflow-add-at
-overflow-add-at c = let size = sized_of c.args.script.now c.loop-size.at _ (sym c.in-Ok.ensures) in omega arith
+pub overflow_add-at : goal.overflow_add-at
+overflow_add-at c = let size = sized_of c.args.script.now c.loop-size.at _ (sym c.in-Ok.ensures) in omega arith
 
 pub returns-in-Err : goal.returns-in-Err
 returns-in-Err c =

@@ -9,12 +9,12 @@ use Rattle.script.proofs.events.put_events.Goals as goal
 pub loop-event-init : goal.loop-event-init
 loop-event-init c = (omega arith, paste_none c.args.out.now c.args.at [])
 
-pub put-byte-place-requires : goal.put-byte-place-requires
-put-byte-place-requires c =
+pub put_byte-place-requires : goal.put_byte-place-requires
+put_byte-place-requires c =
     let turn = spaced-turn c.args.events.now c.loop-event.event-index (omega arith) in omega arith
 
-pub put-number-place-requires : goal.put-number-place-requires
-put-number-place-requires c =
+pub put_number-place-requires : goal.put_number-place-requires
+put_number-place-requires c =
     let turn = spaced-turn c.args.events.now c.loop-event.event-index (omega arith) in omega arith
 
 pub loop-event-preserved : goal.loop-event-preserved
@@ -25,7 +25,7 @@ loop-event-preserved c =
     let turn = spaced-turn es i h in
     let text = spaced-more es i h in
     let low : c.args.at ≤ length c.args.out.now = omega arith in
-    let step = paste_byte_then c.args.out.now (spaced (take i es)) (decimal (get_or es i 0)) c.args.at c.loop-event.place c.put-byte-place.result 32 low c.loop-event.invariant.0 c.put-byte-place.ensures.end in
+    let step = paste_byte_then c.args.out.now (spaced (take i es)) (decimal (get_or es i 0)) c.args.at c.loop-event.place c.put_byte-place.result 32 low c.loop-event.invariant.0 c.put_byte-place.ensures.end in
     let was = c.loop-event.invariant.1 in
     (omega arith, cc)
 

@@ -3,8 +3,8 @@ use Rattle.std.proofs.lemmas.Fmt.{decimal_digit, decimal_step}
 use Rattle.script.proofs.Pastes.{length-one, length-step, paste_then}
 use Rattle.script.proofs.number.+put_number.Goals as goal
 
-pub put-byte-requires : goal.put-byte-requires
-put-byte-requires t c = omega (arith, length-one c.args.n c.if-n-lt10.true)
+pub put_byte-requires : goal.put_byte-requires
+put_byte-requires t c = omega (arith, length-one c.args.n c.if-n-lt10.true)
 
 pub returns-then-n-lt10 : goal.returns-then-n-lt10
 returns-then-n-lt10 t c =
@@ -12,14 +12,14 @@ returns-then-n-lt10 t c =
     let is = decimal_digit c.args.n c.if-n-lt10.true in
     record { end = omega arith; after = cc }
 
-pub put-number-last-requires : goal.put-number-last-requires
-put-number-last-requires t c =
+pub put_number-last-requires : goal.put_number-last-requires
+put_number-last-requires t c =
     let f : c.args.n < 2 ^ 64 = omega arith in
     let step = length-step c.args.n c.if-n-lt10.false f in
     (omega arith, omega arith)
 
-pub put-byte-requires-2 : goal.put-byte-requires-2
-put-byte-requires-2 t c =
+pub put_byte-requires-2 : goal.put_byte-requires-2
+put_byte-requires-2 t c =
     let f : c.args.n < 2 ^ 64 = omega arith in
     let step = length-step c.args.n c.if-n-lt10.false f in
     omega arith
@@ -30,5 +30,5 @@ returns t c =
     let step = length-step c.args.n c.if-n-lt10.false f in
     let is = decimal_step c.args.n c.if-n-lt10.false f in
     let low : c.args.at ≤ length c.args.out.now = omega arith in
-    let both = paste_then c.args.out.now (decimal (c.args.n / 10)) ((48 + c.args.n % 10) ∷ []) c.args.at c.put-number-last.result 1 low c.put-number-last.ensures.end refl in
+    let both = paste_then c.args.out.now (decimal (c.args.n / 10)) ((48 + c.args.n % 10) ∷ []) c.args.at c.put_number-last.result 1 low c.put_number-last.ensures.end refl in
     record { end = omega arith; after = cc }

@@ -6,5 +6,5 @@ pub returns : goal.returns
 returns c =
     record {
       end = refl;
-      after = put_mid-paste c.args.at ((c.args.at + length c.args.text.now) - c.args.at) c.args.out.now c.copy-from-slice.new.self c.args.text.now (length c.args.text.now) c.copy-from-slice.ensures.after (omega arith) refl;
+      after = put_mid-paste c.args.at ((c.args.at + length c.args.text.now) - c.args.at) c.args.out.now c.copy_from_slice.new.self c.args.text.now (length c.args.text.now) c.copy_from_slice.ensures.after (omega arith) refl;
     }

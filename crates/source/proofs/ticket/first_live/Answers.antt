@@ -3,8 +3,8 @@ use Rattle.std.proofs.lemmas.List.{drop_all}
 use Rattle.source.proofs.Live.{live-kept, live-passed}
 use Rattle.source.proofs.ticket.first_live.Goals as goal
 
-pub returns-then-is-live : goal.returns-then-is-live
-returns-then-is-live c = search (rules, live-kept)
+pub returns-then-is_live : goal.returns-then-is_live
+returns-then-is_live c = search (rules, live-kept)
 
 pub loop-i-preserved : goal.loop-i-preserved
 loop-i-preserved c = search (rules, live-passed)

@@ -8,5 +8,5 @@ loop-event-preserved g c =
 
 pub returns : goal.returns
 returns g c =
-    let all = leads-all _ _ _ _ _ _ _ _ _ _ c.loop-event.invariant c.in-default.ensures.gives.0 c.in-default.ensures.draws in
-    record { after = all.0; emptied = c.in-default.ensures.gives.1; drawn = all.1; value = all.2; bound = c.loop-event.invariant.within }
+    let all = leads-all _ _ _ _ _ _ _ _ _ _ c.loop-event.invariant c.in_default.ensures.gives.0 c.in_default.ensures.draws in
+    record { after = all.0; emptied = c.in_default.ensures.gives.1; drawn = all.1; value = all.2; bound = c.loop-event.invariant.within }

@@ -12,7 +12,7 @@ returns c =
     elim c.match-mark.branch [
       | in-Opening w ↦
           let four = ap (λ m. size_of m bs) w.in-Opening.is in
-          ap meant w.record-is ∙ opening-whole c.args.mark bs w.from-be-bytes.result w.in-Opening.is (omega arith) w.from-be-bytes.ensures
+          ap meant w.record-is ∙ opening-whole c.args.mark bs w.from_be_bytes.result w.in-Opening.is (omega arith) w.from_be_bytes.ensures
       | in-Register w ↦ ap meant w.record-is ∙ sym (ap (λ m. whole m bs) w.in-Register.is)
       | in-WouldWrite w ↦ ap meant w.record-is ∙ sym (ap (λ m. whole m bs) w.in-WouldWrite.is)
       | in-Write w ↦ ap meant w.record-is ∙ write-whole c.args.mark bs c.size-size.result w.in-Write.is c.size-size.ensures

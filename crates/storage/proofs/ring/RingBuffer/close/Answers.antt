@@ -19,8 +19,8 @@ returns-in-Err g c =
       refused = refl;
     }
 
-pub invariant-of-self : goal.invariant-of-self
-invariant-of-self g c = with_removed c.args.self.now c.remove.new.self c.args.number c.in-default.ensures c.remove.ensures
+pub invariant_of-self : goal.invariant_of-self
+invariant_of-self g c = with_removed c.args.self.now c.remove.new.self c.args.number c.in_default.ensures c.remove.ensures
 
 pub returns : goal.returns
 returns g c =
@@ -28,7 +28,7 @@ returns g c =
     record {
       ledger = λ slots.
           ap (λ (m : ReaderMeta). (closed, ledger_with r.instance r.slots slots r.last.index r.last.size r.generation m)) c.remove.ensures
-          ∙ close_open r.instance r.slots slots r.last.index r.last.size r.generation r.within r.meta c.args.number c.in-default.ensures r.whole r.stack;
+          ∙ close_open r.instance r.slots slots r.last.index r.last.size r.generation r.within r.meta c.args.number c.in_default.ensures r.whole r.stack;
       rest = search rules;
       refused = tt;
     }

@@ -3,8 +3,8 @@ use Rattle.storage.specs.Slots.{grown}
 use Rattle.storage.proofs.Stores.{grown-facts, grown-ledger}
 use Rattle.storage.proofs.ring.RingBuffer.grow.Goals as goal
 
-pub invariant-of-self : goal.invariant-of-self
-invariant-of-self g c =
+pub invariant_of-self : goal.invariant_of-self
+invariant_of-self g c =
     let fits : c.args.self.now.generation < 2 ^ 64 = omega arith in
     grown-facts c.args.self.now fits c.shift.new.self c.args.by c.args.left c.shift.ensures c.requires.double c.requires.room c.requires.least c.requires.ahead
 

@@ -20,18 +20,18 @@ returns-then-count-eq0 g c =
       source = (none, drawn_none events (g.S.Source.beneath c.args.source.now) none);
     }
 
-pub returns-in-err-ensure-additional : goal.returns-in-err-ensure-additional
-returns-in-err-ensure-additional g c =
-    let p = err_from_is_err_and c.from-residual.result c.from-residual.ensures.1 in
+pub returns-in_err-ensure_additional : goal.returns-in_err-ensure_additional
+returns-in_err-ensure_additional g c =
+    let p = err_from_is_err_and c.from_residual.result c.from_residual.ensures.1 in
     let r = c.args.self.now in
-    let f = c.in-err-ensure-additional.field-0.0 in
-    let e = c.in-err-ensure-additional.ensures in
+    let f = c.in_err-ensure_additional.field-0.0 in
+    let e = c.in_err-ensure_additional.ensures in
     let events = g.S.Source.means c.args.source.now in
     let some : 1 ≤ length events = omega arith in
     rw (p.1, p.2)
     (record {
       ledger =
-          ap (λ (x : RingBuffer g.row.E.Denot). (refused (number_of f), ledger_of x c.ensure-additional.new.slots)) e.1
+          ap (λ (x : RingBuffer g.row.E.Denot). (refused (number_of f), ledger_of x c.ensure_additional.new.slots)) e.1
           ∙ ap (λ (xs : List g.row.E.Denot). (refused (number_of f), ledger_of r xs)) e.2
           ∙ refused-some (ledger_of r c.args.slots.now) (length c.args.slots.now) (number_of f) events c.if-slots-self.false some
           (ap (λ (n : ℕ). no_room (ledger_of r c.args.slots.now) n) (sym c.len-count.ensures) ∙ e.0);
@@ -42,7 +42,7 @@ returns-in-err-ensure-additional g c =
 pub returns : goal.returns
 returns g c =
     let r = c.args.self.now in
-    let room = c.in-ok-ensure-additional.ensures in
+    let room = c.in_ok-ensure_additional.ensures in
     let done = c.store.ensures in
     let events = g.S.Source.means c.args.source.now in
     let some : 1 ≤ length events = omega arith in
@@ -53,7 +53,7 @@ returns g c =
           (ap (λ (n : ℕ). no_room L n) (sym c.len-count.ensures) ∙ room.unrefused)
           (done.ledger ∙ ap (λ (l : Ledger g.row.E.Denot). with_joined l events) (room.ledger ∙ ap (λ (n : ℕ). with_size L (size_then L n)) c.len-count.ensures));
       stored =
-          stored_some r c.ensure-additional.new.self c.store.new.self c.args.slots.now c.ensure-additional.new.slots c.store.new.slots c.len-count.result events some c.len-count.ensures room done.available
+          stored_some r c.ensure_additional.new.self c.store.new.self c.args.slots.now c.ensure_additional.new.slots c.store.new.slots c.len-count.result events some c.len-count.ensures room done.available
           (ap (λ (l : Ledger g.row.E.Denot). l.size) done.ledger) done.last done.generation done.slots;
       source = (done.emptied, done.drawn);
     }

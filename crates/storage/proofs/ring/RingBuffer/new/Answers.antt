@@ -4,8 +4,8 @@ use Rattle.storage.proofs.Each.{kept_new}
 use Rattle.storage.proofs.Handing.{new_ledger}
 use Rattle.storage.proofs.ring.RingBuffer.new.Goals as goal
 
-pub invariant-of-result : goal.invariant-of-result
-invariant-of-result g c =
+pub invariant_of-result : goal.invariant_of-result
+invariant_of-result g c =
     let last = c.at_end.result in
     let size : last.size ≡ c.args.grant.size = ap (λ (i : CircularIndex). i.size) c.at_end.ensures in
     let index : last.index ≡ c.args.grant.size - 1 = ap (λ (i : CircularIndex). i.index) c.at_end.ensures in

@@ -5,10 +5,10 @@ use Rattle.storage.proofs.Each.{with_alloc}
 use Rattle.storage.proofs.Numbering.{register-some, register-none}
 use Rattle.storage.proofs.ring.RingBuffer.new_reader_id.Goals as goal
 
-pub returns-then-is-full : goal.returns-then-is-full
-returns-then-is-full g c =
+pub returns-then-is_full : goal.returns-then-is_full
+returns-then-is_full g c =
     let r = c.args.self.now in
-    let both = and_parts _ _ (sym c.if-is-full.ensures) in
+    let both = and_parts _ _ (sym c.if-is_full.ensures) in
     record {
       ledger = λ slots.
           register-none r.instance r.slots slots r.last.index r.last.size r.generation r.within r.meta r.meta r.whole
@@ -17,8 +17,8 @@ returns-then-is-full g c =
       refused = refl;
     }
 
-pub invariant-of-self : goal.invariant-of-self
-invariant-of-self g c = with_alloc c.args.self.now c.alloc.new.self c.alloc.result (omega arith) c.alloc.ensures
+pub invariant_of-self : goal.invariant_of-self
+invariant_of-self g c = with_alloc c.args.self.now c.alloc.new.self c.alloc.result (omega arith) c.alloc.ensures
 
 pub returns : goal.returns
 returns g c =

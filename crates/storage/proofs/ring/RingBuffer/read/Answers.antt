@@ -15,8 +15,8 @@ returns-in-Err g c =
       runs = tt;
     }
 
-pub invariant-of-self : goal.invariant-of-self
-invariant-of-self g c = with_advanced c.args.self.now c.advance.new.self c.args.number (omega arith) c.in-default.ensures c.advance.ensures
+pub invariant_of-self : goal.invariant_of-self
+invariant_of-self g c = with_advanced c.args.self.now c.advance.new.self c.args.number (omega arith) c.in_default.ensures c.advance.ensures
 
 pub returns : goal.returns
 returns g c =
@@ -25,10 +25,10 @@ returns g c =
     let n = c.args.number in
     let view = c.new-2.ensures in
     let at : c.step-from.result ≡ unread_place r n = c.step-from.ensures.value ∙ ap (λ (i : CircularIndex). (i.index + 1) % i.size) c.new.ensures in
-    let many : c.unread-from-count.result ≡ unread_count r n = c.unread-from-count.ensures in
-    let list = view.means ∙ ap (λ q. both_runs r slots q c.unread-from-count.result) at ∙ ap (λ k. both_runs r slots (unread_place r n) k) many in
+    let many : c.unread_from-count.result ≡ unread_count r n = c.unread_from-count.ensures in
+    let list = view.means ∙ ap (λ q. both_runs r slots q c.unread_from-count.result) at ∙ ap (λ k. both_runs r slots (unread_place r n) k) many in
     record {
-      ledger = read-hands r slots n c.advance.new.self (unread c.new-2.result) (omega arith) c.in-default.ensures c.advance.ensures list;
+      ledger = read-hands r slots n c.advance.new.self (unread c.new-2.result) (omega arith) c.in_default.ensures c.advance.ensures list;
       rest = search rules;
       refused = tt;
       runs = same_runs slots _ _ _ _ r.last.size c.new-2.result at many (record { first = view.first; second = view.second; whole = view.whole; left = view.left });

@@ -6,9 +6,9 @@ use Rattle.storage.proofs.ring.RingBuffer.single_write.Goals as goal
 
 pub returns : goal.returns
 returns g c =
-    let done = c.iter-write.ensures in
+    let done = c.iter_write.ensures in
     let one = c.new-source.ensures in
     record {
       ledger = done.ledger ∙ ap (λ (xs : List g.row.E.Denot). outcome (ledger_of c.args.self.now c.args.slots.now) (write (length c.args.slots.now) xs)) one;
-      stored = subst (λ (xs : List g.row.E.Denot). Stores c.iter-write.result c.args.self.now c.iter-write.new.self c.args.slots.now c.iter-write.new.slots xs) one done.stored;
+      stored = subst (λ (xs : List g.row.E.Denot). Stores c.iter_write.result c.args.self.now c.iter_write.new.self c.args.slots.now c.iter_write.new.slots xs) one done.stored;
     }

@@ -3,12 +3,12 @@ use Rattle.storage.specs.Slots.{last_after}
 use Rattle.storage.proofs.Stores.{stored-facts, stored-ledger}
 use Rattle.storage.proofs.ring.RingBuffer.store.Goals as goal
 
-pub invariant-of-self : goal.invariant-of-self
-invariant-of-self g c =
+pub invariant_of-self : goal.invariant_of-self
+invariant_of-self g c =
     let r = c.args.self.now in
     let fits : r.generation < 2 ^ 64 = omega arith in
-    let value = c.put-all-self.ensures.value ∙ ap (λ n. last_after r.last.size r.last.index n) (sym c.requires.all) in
-    stored-facts r fits c.put-all-self.result c.args.num value c.requires.some c.requires.enough
+    let value = c.put_all-self.ensures.value ∙ ap (λ n. last_after r.last.size r.last.index n) (sym c.requires.all) in
+    stored-facts r fits c.put_all-self.result c.args.num value c.requires.some c.requires.enough
 
 pub returns : goal.returns
 returns g c =
@@ -18,7 +18,7 @@ returns g c =
     let events = g.S.Source.means c.args.source.now in
     let some : 1 ≤ length events = omega arith in
     let enough : length events ≤ r.available = omega arith in
-    let done = c.put-all-self.ensures in
+    let done = c.put_all-self.ensures in
     record {
       available = refl;
       emptied = done.emptied;
@@ -26,5 +26,5 @@ returns g c =
       last = done.value ∙ ap (λ n. last_after r.last.size r.last.index n) (sym c.requires.all);
       generation = refl;
       slots = done.after;
-      ledger = stored-ledger r fits c.args.slots.now c.put-all-self.new.slots c.put-all-self.result events done.after done.value some enough room;
+      ledger = stored-ledger r fits c.args.slots.now c.put_all-self.new.slots c.put_all-self.result events done.after done.value some enough room;
     }

@@ -3,4 +3,4 @@ use Rattle.storage.proofs.ring.RingBuffer.would_write.Goals as goal
 
 pub returns : goal.returns
 returns g c slots =
-    let r = c.args.self.now in any_open_is slots r.last.index r.last.size r.generation r.meta.readers c.has-reader.result c.has-reader.ensures
+    let r = c.args.self.now in any_open_is slots r.last.index r.last.size r.generation r.meta.readers c.has_reader.result c.has_reader.ensures

@@ -7,11 +7,11 @@ returns-in-Some g c =
     let some : 0 < c.args.self.now.left = omega arith in
     record { gives = first_gives c.args.self.now.left _ _ _ _ some c.in-Some.ensures.cases.0; draws = refl }
 
-pub returns-in-default-split-first : goal.returns-in-default-split-first
-returns-in-default-split-first g c = search (rules, none_left)
+pub returns-in_default-split_first : goal.returns-in_default-split_first
+returns-in_default-split_first g c = search (rules, none_left)
 
 pub returns : goal.returns
 returns g c =
     let some : 0 < c.args.self.now.left = omega arith in
     let spent : length c.args.self.now.first.now ≡ 0 = search rules in
-    record { gives = second-gives c.args.self.now.left _ c.args.self.now.first.now _ _ some spent c.in-Some-split-first.ensures.cases.0; draws = refl }
+    record { gives = second-gives c.args.self.now.left _ c.args.self.now.first.now _ _ some spent c.in-Some-split_first.ensures.cases.0; draws = refl }
