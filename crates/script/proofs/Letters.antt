@@ -1,20 +1,17 @@
 -- A comparison of bytes as a test, and the mark that letters are.
-use Rattle.std.proofs.Common.{◌≡◌, ℕ, ◌+◌, ◌<◌, Bool, true, false, List, length, get_or, drop, Some, Decides, sym, refl, ap, ◌∙◌}
-use Rattle.std.specs.Cmp.Lexicographic.{Matches}
+use Rattle.std.proofs.Common.{◌≡◌, ℕ, ◌+◌, ◌<◌, Bool, true, false, List, length, get_or, drop, Some, sym, refl, ap, ◌∙◌}
 use Rattle.std.specs.Str.{bytes_eq}
-use Rattle.std.proofs.lemmas.Slice.Eq.{slice_eq-Decides, bytes_eq-Decides}
 use Rattle.std.proofs.lemmas.List.{at_drop_more}
 use Rattle.std.proofs.lemmas.Bool.{cond-true, cond-false}
-use Rattle.std.proofs.lemmas.Bool.Decides.{same_from_decides, Decides-eqb}
 use Rattle.script.specs.declared.mark.Mark.{Mark}
 use Rattle.script.specs.declared.mark.Mark.TheVariants as mark
 use Rattle.script.specs.Marks.{letters, among, mark_of}
 
-pub tested : (xs ys : List ℕ) (r t : Bool) → Matches (λ (a b : ℕ) (t : Bool). Decides t (a ≡ b)) xs ys r → r ≡ t → bytes_eq xs ys ≡ t
-tested xs ys r t m e = sym (same_from_decides r (bytes_eq xs ys) (slice_eq-Decides Decides-eqb xs ys r m) (bytes_eq-Decides xs ys)) ∙ e
+pub tested : (xs ys : List ℕ) (r t : Bool) → r ≡ bytes_eq xs ys → r ≡ t → bytes_eq xs ys ≡ t
+tested xs ys r t m e = sym m ∙ e
 
 -- one mark after another is held against the bytes
-module _ (bs : List ℕ) (ms : List Mark) (i : ℕ) (d : Mark) (ls : List ℕ) (r : Bool) (in' : i < length ms) (is : ls ≡ letters (get_or ms i d)) (m : Matches (λ (a b : ℕ) (t : Bool). Decides t (a ≡ b)) bs ls r) where
+module _ (bs : List ℕ) (ms : List Mark) (i : ℕ) (d : Mark) (ls : List ℕ) (r : Bool) (in' : i < length ms) (is : ls ≡ letters (get_or ms i d)) (m : r ≡ bytes_eq bs ls) where
   held : (t : Bool) → r ≡ t → bytes_eq bs (letters (get_or ms i d)) ≡ t
   held t e = ap (λ xs. bytes_eq bs xs) (sym is) ∙ tested bs ls r t m e
 

@@ -1,7 +1,6 @@
 -- The bytes from a place on, and the record that begins there.
-use Rattle.std.proofs.Common.{◌≡◌, ℕ, ◌-◌, ◌<◌, ◌≤◌, min, Bool, true, false, not, eqb, List, length, take, drop, None, Err, codes, Decides, sym, refl, ap, ◌∙◌, inl, inr, arith}
+use Rattle.std.proofs.Common.{◌≡◌, ℕ, ◌-◌, ◌<◌, ◌≤◌, min, Bool, true, false, not, eqb, List, length, take, drop, None, Err, codes, sym, refl, ap, ◌∙◌, inl, inr, arith}
 use mathlib.Core.Bool.{beq}
-use Rattle.std.specs.Cmp.Lexicographic.{Matches}
 use Rattle.std.specs.Str.{bytes_eq}
 use Rattle.std.proofs.lemmas.List.{take_all, take_rest, drop_all}
 use Rattle.std.proofs.lemmas.Bool.{cases_lt, lt-ltb, le-ltb, true≢false}
@@ -40,13 +39,13 @@ abbrev pub cut : List ℕ → ℕ → List ℕ
 cut script from = take (length script - from) (drop from script)
 
 pub placed : (script : List ℕ) (at from n : ℕ) (opens : Bool) → from ≡ min at (length script) → n ≡ min (length (cut script from)) 2
-    → Matches (λ (a b : ℕ) (t : Bool). Decides t (a ≡ b)) (take (n - 0) (cut script from)) (codes "CH") opens → not (beq opens (eqb at 0)) ≡ false
+    → (letters : List ℕ) → letters ≡ codes "CH" → opens ≡ bytes_eq (take (n - 0) (cut script from)) letters → not (beq opens (eqb at 0)) ≡ false
     → marked (mark_of (take (n - 0) (cut script from))) (cut script from) ≡ record_of script at
-placed script at from n opens is two m e =
+placed script at from n opens is two letters are m e =
     let bytes = cut script from in
     let start = take (n - 0) bytes in
     let front : start ≡ take 2 bytes = first_two bytes n two in
-    let test : bytes_eq start (codes "CH") ≡ eqb at 0 = tested start (codes "CH") opens (eqb at 0) m (same_flags opens (eqb at 0) e) in
+    let test : bytes_eq start (codes "CH") ≡ eqb at 0 = tested start (codes "CH") opens (eqb at 0) (m ∙ ap (λ xs. bytes_eq start xs) are) (same_flags opens (eqb at 0) e) in
     let test' : bytes_eq (take 2 bytes) (codes "CH") ≡ eqb at 0 = ap (λ xs. bytes_eq xs (codes "CH")) (sym front) ∙ test in
     ap (λ xs. marked (mark_of xs) bytes) front ∙ (not_misplaced (eqb at 0) bytes test' ∙ ap (λ xs. record_at (eqb at 0) xs) (from_place script at from is))
 

@@ -27,7 +27,7 @@ impl Mark {
         ensures { result ≡ mark_of bytes.now }
     {
         for mark in &MARKS {
-            if bytes == mark.letters() {
+            if bytes == mark.letters().as_slice() {
                 return Some(*mark);
             }
         }

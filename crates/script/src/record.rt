@@ -86,7 +86,7 @@ impl<'a> Record<'a> {
     {
         let bytes = &script[at.min(script.len())..];
         let start = &bytes[0..bytes.len().min(2)];
-        let opens = start == b"CH";
+        let opens = start == b"CH".as_slice();
         if opens != (at == 0) {
             return Err(Fault::MisplacedOpening);
         }

@@ -40,36 +40,32 @@ module _ (last size generation available : ℕ) where
       let none = lag-none generation fits in
       record { ahead = omega arith; place = below; bounded = fits; lags = omega arith; level = λ _. refl }
 
-  -- the same of a table, fact by fact in the order of the ring's record
+  -- the same of a table, under the names in the ring's record
   abbrev pub Kept : ReaderMeta → Type 0
   Kept g =
-      Ahead g.readers last size generation available
-      × (Places g.readers size
-      × (Bounded g.readers
-      × (Lags g.readers last size generation
-      × (Level g.readers last generation
-      × (Whole g
-      × (Stack g
-      × (Apart g
-      × Unit {0})))))))
+      record {
+        ahead : Ahead g.readers last size generation available;
+        places : Places g.readers size;
+        bounded : Bounded g.readers;
+        lags : Lags g.readers last size generation;
+        level : Level g.readers last generation;
+        whole : Whole g;
+        stack : Stack g;
+        apart : Apart g
+      }
 
   pub kept : (g : ReaderMeta) → Each Fine g.readers → Sound g size → Kept g
-  kept g fine sound = (
-    (λ k lv. (fine k lv).ahead),
-    (
-      (λ k lv. (fine k lv).place),
-      (
-        (λ k lv. (fine k lv).bounded),
-        (
-          (λ k lv. (fine k lv).lags),
-          (
-            (λ k lv. (fine k lv).level),
-            (sound.1, (sound.2, (sound.3, tt))),
-          ),
-        ),
-      ),
-    ),
-  )
+  kept g fine sound =
+      record {
+        ahead = λ k lv. (fine k lv).ahead;
+        places = λ k lv. (fine k lv).place;
+        bounded = λ k lv. (fine k lv).bounded;
+        lags = λ k lv. (fine k lv).lags;
+        level = λ k lv. (fine k lv).level;
+        whole = sound.1;
+        stack = sound.2;
+        apart = sound.3;
+      }
 
   -- before anyone registered
   pub kept_new : (g : ReaderMeta) → g ≡ no_readers → Kept g
@@ -77,10 +73,43 @@ module _ (last size generation available : ℕ) where
       let sound = new_sound size in
       subst (λ (x : ReaderMeta). Kept x) (sym same) (kept no_readers (λ k lv. absurd (omega (arith, sound.1.2 k lv))) sound)
 
--- all facts of a ring, in the order of its record
-abbrev pub Facts : ℕ → ℕ → ℕ → ℕ → ℕ → ReaderMeta → Type 0
-Facts available last size slots generation g =
-    (2 ≤ size) × ((size ≤ slots) × ((slots ≤ 1048576) × ((last < size) × ((available ≤ size) × Kept last size generation available g))))
+module _ (available last size slots generation : ℕ) (g : ReaderMeta) where
+  -- all facts of a ring, under the names in its record
+  abbrev pub Facts : Type 0
+  Facts =
+      record {
+        small : 2 ≤ size;
+        room : size ≤ slots;
+        few : slots ≤ 1048576;
+        within : last < size;
+        spare : available ≤ size;
+        ahead : Ahead g.readers last size generation available;
+        places : Places g.readers size;
+        bounded : Bounded g.readers;
+        lags : Lags g.readers last size generation;
+        level : Level g.readers last generation;
+        whole : Whole g;
+        stack : Stack g;
+        apart : Apart g
+      }
+
+  pub facts : 2 ≤ size → size ≤ slots → slots ≤ 1048576 → last < size → available ≤ size → Kept last size generation available g → Facts
+  facts small room few within spare k =
+      record {
+        small = small;
+        room = room;
+        few = few;
+        within = within;
+        spare = spare;
+        ahead = k.ahead;
+        places = k.places;
+        bounded = k.bounded;
+        lags = k.lags;
+        level = k.level;
+        whole = k.whole;
+        stack = k.stack;
+        apart = k.apart;
+      }
 
 module _ {E : Type 0} (r : RingBuffer E) where
   abbrev pub last_of : ℕ
@@ -105,7 +134,7 @@ module _ {E : Type 0} (r : RingBuffer E) where
   with_set g n e same p sound =
       let fine = each_set (Fine last_of size_of r.generation r.available) r.meta.readers n e p fine_of in
       let all : Each (Fine last_of size_of r.generation r.available) g.readers = subst (λ (rs : List Reader). Each (Fine last_of size_of r.generation r.available) rs) (sym same) fine in
-      (r.small, (r.room, (r.few, (r.within, (r.spare, kept last_of size_of r.generation r.available g all sound)))))
+      facts r.available last_of size_of r.slots r.generation g r.small r.room r.few r.within r.spare (kept last_of size_of r.generation r.available g all sound)
 
   -- a registration
   pub with_alloc : (g : ReaderMeta) (n : ℕ) → r.generation < 2 ^ 64 → Alloc r.meta g last_of r.generation (Some n) → With g

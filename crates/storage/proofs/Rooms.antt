@@ -135,7 +135,21 @@ module _ {E : Type 0} (r : RingBuffer E) (slots : List E) (own : length slots �
   pub with_left : (left : ℕ) → left ≤ r.last.size → Ahead rs r.last.index r.last.size r.generation left
       → Facts left r.last.index r.last.size r.slots r.generation r.meta
   with_left left least ahead =
-      (r.small, (r.room, (r.few, (r.within, (least, (ahead, (r.places, (r.bounded, (r.lags, (r.level, (r.whole, (r.stack, (r.apart, tt)))))))))))))
+      record {
+        small = r.small;
+        room = r.room;
+        few = r.few;
+        within = r.within;
+        spare = least;
+        ahead = ahead;
+        places = r.places;
+        bounded = r.bounded;
+        lags = r.lags;
+        level = r.level;
+        whole = r.whole;
+        stack = r.stack;
+        apart = r.apart;
+      }
 
   -- room after growth to the ledger's size
   pub grown-room : (num i left new : ℕ) (t : RingBuffer E) (after : List E) → Nearest far rs most (Some i) → left ≡ far (get_or rs i blank) → r.available < num → left < num

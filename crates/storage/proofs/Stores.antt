@@ -184,35 +184,21 @@ module _ {E : Type 0} (r : RingBuffer E) (fits : r.generation < 2 ^ 64) where
       let kept = shifted-sound meta last r.generation g size sound in
       let P : ReaderMeta → Type 0 = Facts (left + g) last (size + g) r.slots r.generation in
       subst P (sym e) (
-        omega (arith, r.small),
-        (
-          room,
-          (
-            r.few,
-            (
-              omega (arith, r.within),
-              (
-                omega arith,
-                (
-                  grown-ahead meta.readers last size r.generation r.available g table some left ahead,
-                  (
-                    kept.0,
-                    (
-                      grown-bounded meta.readers last size r.generation r.available g table some,
-                      (
-                        grown-lags meta.readers last size r.generation r.available g table some,
-                        (
-                          grown-level meta.readers last size r.generation r.available g table some,
-                          (kept.1, (kept.2, (kept.3, tt))),
-                        ),
-                      ),
-                    ),
-                  ),
-                ),
-              ),
-            ),
-          ),
-        ),
+        record {
+          small = omega (arith, r.small);
+          room = room;
+          few = r.few;
+          within = omega (arith, r.within);
+          spare = omega arith;
+          ahead = grown-ahead meta.readers last size r.generation r.available g table some left ahead;
+          places = kept.0;
+          bounded = grown-bounded meta.readers last size r.generation r.available g table some;
+          lags = grown-lags meta.readers last size r.generation r.available g table some;
+          level = grown-level meta.readers last size r.generation r.available g table some;
+          whole = kept.1;
+          stack = kept.2;
+          apart = kept.3;
+        }
       )
 
   -- and changes the ledger's size alone
@@ -231,35 +217,21 @@ module _ {E : Type 0} (r : RingBuffer E) (fits : r.generation < 2 ^ 64) where
       let all : 0 < size = omega (arith, r.small) in
       let P : ℕ → Type 0 = λ l. Facts (r.available - n) l size r.slots ((r.generation + 1) % 2 ^ 64) meta in
       subst P (sym e) (
-        r.small,
-        (
-          r.room,
-          (
-            r.few,
-            (
-              mod-lt (last + n) all,
-              (
-                omega (arith, r.spare),
-                (
-                  stored-ahead meta.readers last size r.generation r.available n table some enough,
-                  (
-                    r.places,
-                    (
-                      r.bounded,
-                      (
-                        stored-lags meta.readers last size r.generation r.available n table some enough,
-                        (
-                          stored-level meta.readers last size r.generation r.available n table some enough,
-                          (r.whole, (r.stack, (r.apart, tt))),
-                        ),
-                      ),
-                    ),
-                  ),
-                ),
-              ),
-            ),
-          ),
-        ),
+        record {
+          small = r.small;
+          room = r.room;
+          few = r.few;
+          within = mod-lt (last + n) all;
+          spare = omega (arith, r.spare);
+          ahead = stored-ahead meta.readers last size r.generation r.available n table some enough;
+          places = r.places;
+          bounded = r.bounded;
+          lags = stored-lags meta.readers last size r.generation r.available n table some enough;
+          level = stored-level meta.readers last size r.generation r.available n table some enough;
+          whole = r.whole;
+          stack = r.stack;
+          apart = r.apart;
+        }
       )
 
   -- and joins the events to every unread list

@@ -1,9 +1,10 @@
-ghost use Rattle.std.specs.Prelude.{◌<◌, ◌≤◌};
+ghost use Rattle.std.specs.Prelude.{⊤, ◌≡◌, ◌<◌, ◌≤◌};
 ghost use Rattle.storage.specs.Kept.{Bounded, Lags, Level, Ahead};
 ghost use Rattle.storage.specs.Meta.{Places, Whole, Stack, Apart};
 
 use crate::circular::CircularIndex;
 use crate::reader::ReaderMeta;
+use std::alloc::AllocError;
 use std::marker::PhantomData;
 
 // The record of a ring whose slots its caller supplies at each call. It is plain and may be copied.
@@ -32,6 +33,16 @@ pub struct RingBuffer<E> {
     ghost whole: { Whole meta },
     ghost stack: { Stack meta },
     ghost apart: { Apart meta },
+}
+
+impl<E> Clone for RingBuffer<E> {
+    ghost is_clone = { λ ring copy. copy ≡ ring };
+
+    ghost is_infallible = { λ _. ⊤ };
+
+    fn clone(&self) -> Result<Self, AllocError> {
+        Ok(*self)
+    }
 }
 
 impl<E> Copy for RingBuffer<E> {}

@@ -6,7 +6,7 @@ use Rattle.storage.proofs.ring.RingBuffer.ensure_additional_slow.Goals as goal
 
 pub returns-then-num-size : goal.returns-then-num-size
 returns-then-num-size g c =
-    (too_long c.args.self.now c.args.slots.now c.requires.own_val c.args.num c.in-None.ensures c.if-num-size.true, refl, refl)
+    (too_long c.args.self.now c.args.slots.now c.requires.own c.args.num c.in-None.ensures c.if-num-size.true, refl, refl)
 
 clash : {A : Type 0} → (b : Bool) → b ≡ false → b ≡ true → A
 clash b p q = absurd (grind arith)
@@ -14,32 +14,32 @@ clash b p q = absurd (grind arith)
 pub returns-in-None : goal.returns-in-None
 returns-in-None g c =
     let r = c.args.self.now in
-    as_it_is r c.args.slots.now c.requires.own_val c.args.num _ (λ k lv. clash _ (nobody r c.args.slots.now c.requires.own_val c.in-None.ensures k) lv)
+    as_it_is r c.args.slots.now c.requires.own c.args.num _ (λ k lv. clash _ (nobody r c.args.slots.now c.requires.own c.in-None.ensures k) lv)
     c.if-num-size.false c.if-num-size.false
-    (nobody_available r c.args.slots.now c.requires.own_val c.args.num c.in-None.ensures c.requires.short c.if-num-size.false) refl refl refl refl refl
+    (nobody_available r c.args.slots.now c.requires.own c.args.num c.in-None.ensures c.requires.short c.if-num-size.false) refl refl refl refl refl
 
 pub invariant_of-self-then-left-num : goal.invariant_of-self-then-left-num
 invariant_of-self-then-left-num g c =
     let r = c.args.self.now in
     let near = c.in-Some.ensures in
-    with_left r c.args.slots.now c.requires.own_val c.distance_from-left.result
-    (nearest_least r c.args.slots.now c.requires.own_val c.in-Some.nearest c.distance_from-left.result near c.distance_from-left.ensures)
-    (nearest_ahead r c.args.slots.now c.requires.own_val c.in-Some.nearest c.distance_from-left.result near c.distance_from-left.ensures)
+    with_left r c.args.slots.now c.requires.own c.distance_from-left.result
+    (nearest_least r c.args.slots.now c.requires.own c.in-Some.nearest c.distance_from-left.result near c.distance_from-left.ensures)
+    (nearest_ahead r c.args.slots.now c.requires.own c.in-Some.nearest c.distance_from-left.result near c.distance_from-left.ensures)
 
 pub returns-then-left-num : goal.returns-then-left-num
 returns-then-left-num g c =
     let r = c.args.self.now in
     let near = c.in-Some.ensures in
-    let ahead = nearest_ahead r c.args.slots.now c.requires.own_val c.in-Some.nearest c.distance_from-left.result near c.distance_from-left.ensures in
-    let least = nearest_least r c.args.slots.now c.requires.own_val c.in-Some.nearest c.distance_from-left.result near c.distance_from-left.ensures in
-    as_it_is r c.args.slots.now c.requires.own_val c.args.num _ (λ k lv. omega (arith, ahead k lv, c.if-left-num.true)) (omega arith) c.if-left-num.true
-    (somebody_available r c.args.slots.now c.requires.own_val c.args.num c.in-Some.nearest c.distance_from-left.result near c.distance_from-left.ensures c.requires.short c.if-left-num.true) refl refl refl refl refl
+    let ahead = nearest_ahead r c.args.slots.now c.requires.own c.in-Some.nearest c.distance_from-left.result near c.distance_from-left.ensures in
+    let least = nearest_least r c.args.slots.now c.requires.own c.in-Some.nearest c.distance_from-left.result near c.distance_from-left.ensures in
+    as_it_is r c.args.slots.now c.requires.own c.args.num _ (λ k lv. omega (arith, ahead k lv, c.if-left-num.true)) (omega arith) c.if-left-num.true
+    (somebody_available r c.args.slots.now c.requires.own c.args.num c.in-Some.nearest c.distance_from-left.result near c.distance_from-left.ensures c.requires.short c.if-left-num.true) refl refl refl refl refl
 
 pub returns-in_default : goal.returns-in_default
 returns-in_default g c =
     let r = c.args.self.now in
     let near = c.in-Some.ensures in (
-      too_large r c.args.slots.now c.requires.own_val c.args.num c.in-Some.nearest near
+      too_large r c.args.slots.now c.requires.own c.args.num c.in-Some.nearest near
           (subst (λ (d : ℕ). r.slots < size_for r.last.size (r.last.size - d + c.args.num)) c.distance_from-left.ensures c.in_default.ensures),
       refl,
       refl,
@@ -52,22 +52,22 @@ pub grow-requires : goal.grow-requires
 grow-requires g c =
     let r = c.args.self.now in
     let near = c.in-Some.ensures in
-    let least = nearest_least r c.args.slots.now c.requires.own_val c.in-Some.nearest c.distance_from-left.result near c.distance_from-left.ensures in
+    let least = nearest_least r c.args.slots.now c.requires.own c.in-Some.nearest c.distance_from-left.result near c.distance_from-left.ensures in
     let more : r.last.size < r.last.size - c.distance_from-left.result + c.args.num = omega arith in
     let twice = twice_at_least r.last.size (r.last.size - c.distance_from-left.result + c.args.num) (omega arith) more in
     let grown = c.in-Some-grown_size.ensures in
     record {
       double = omega (arith, twice, grown.0);
       room = omega (arith, twice, grown.0, grown.1);
-      own = c.requires.own_val;
+      own = c.requires.own;
       least = least;
-      ahead = nearest_ahead r c.args.slots.now c.requires.own_val c.in-Some.nearest c.distance_from-left.result near c.distance_from-left.ensures;
+      ahead = nearest_ahead r c.args.slots.now c.requires.own c.in-Some.nearest c.distance_from-left.result near c.distance_from-left.ensures;
     }
 
 pub returns : goal.returns
 returns g c =
     let done = c.grow.ensures in
     let grown = c.in-Some-grown_size.ensures in
-    grown-room c.args.self.now c.args.slots.now c.requires.own_val c.args.num c.in-Some.nearest c.distance_from-left.result c.in-Some-grown_size.grown
+    grown-room c.args.self.now c.args.slots.now c.requires.own c.args.num c.in-Some.nearest c.distance_from-left.result c.in-Some-grown_size.grown
     c.grow.new.self c.grow.new.slots c.in-Some.ensures c.distance_from-left.ensures c.requires.short (omega arith) grown.0 grown.1
     done.available done.last done.generation done.slots done.ledger

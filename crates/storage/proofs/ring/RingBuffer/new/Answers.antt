@@ -1,6 +1,6 @@
 use Rattle.std.proofs.Common.{◌≡◌, ◌-◌, refl, ap, arith}
 use Rattle.storage.specs.declared.circular.CircularIndex.{CircularIndex}
-use Rattle.storage.proofs.Each.{kept_new}
+use Rattle.storage.proofs.Each.{facts, kept_new}
 use Rattle.storage.proofs.Handing.{new_ledger}
 use Rattle.storage.proofs.ring.RingBuffer.new.Goals as goal
 
@@ -9,7 +9,8 @@ invariant_of-result g c =
     let last = c.at_end.result in
     let size : last.size ≡ c.args.grant.size = ap (λ (i : CircularIndex). i.size) c.at_end.ensures in
     let index : last.index ≡ c.args.grant.size - 1 = ap (λ (i : CircularIndex). i.index) c.at_end.ensures in
-    (omega arith, (omega arith, (omega arith, (omega arith, (omega arith, kept_new last.index last.size 0 c.args.grant.size c.new.result c.new.ensures)))))
+    facts c.args.grant.size last.index last.size c.args.grant.slots 0 c.new.result (omega arith) (omega arith) (omega arith) (omega arith) (omega arith)
+    (kept_new last.index last.size 0 c.args.grant.size c.new.result c.new.ensures)
 
 pub returns : goal.returns
 returns g c =
