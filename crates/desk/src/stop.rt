@@ -2,7 +2,7 @@ use source::fault::Fault;
 use std::io;
 
 // Why the day ends early.
-#[derive(Drop)]
+#[derive(Debug, Drop)]
 pub enum Stop {
     Output(io::Error),
     Refused(Fault),
