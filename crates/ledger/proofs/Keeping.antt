@@ -1,7 +1,7 @@
 -- What a reader was handed and what waits for it, over any stretch of a told history. Assumes nothing.
 use Rattle.std.proofs.Common.{◌≡◌, ℕ, ◌<◌, true, ◌≢◌, List, [], ◌∷◌, ◌++◌, length, get_or, set, sym, refl, ap, ◌∙◌, subst, inl, inr, append_assoc, append-nil, arith, get_or-set_other, get_or-set_same}
 use mathlib.Core.Path.{subst⁻¹}
-use Rattle.std.specs.List.{flat_map, AllByRecursion as All}
+use Rattle.std.specs.List.{flat_map, AllByRecursion}
 use Rattle.std.proofs.lemmas.Bool.{cases_eq, eq-eqb, ne_eqb}
 use Rattle.ledger.specs.Ledger.{Ledger, Reader, shut, waiting, Call, Answer, taken, outcome, next_number, is_open, unread, reader_at, waiting_for, Open, joined_by}
 use Rattle.ledger.specs.Ledger.Call.{register, write, read, close}
@@ -18,7 +18,7 @@ pub joined_append : {X A : Type 0} (f : X → List A) (xs ys : List X) → flat_
 joined_append f [] ys = refl
 joined_append f (x ∷ xs) ys = rw (joined_append f xs ys) (sym (append_assoc (f x) (flat_map f xs) (flat_map f ys)))
 
-pub all_split : {X : Type 0} (P : X → Type 0) (xs ys : List X) → All P (xs ++ ys) → All P xs × All P ys
+pub all_split : {X : Type 0} (P : X → Type 0) (xs ys : List X) → AllByRecursion P (xs ++ ys) → AllByRecursion P xs × AllByRecursion P ys
 all_split P [] ys h = (tt, h)
 all_split P (x ∷ xs) ys h = let r = all_split P xs ys h.1 in ((h.0, r.0), r.1)
 

@@ -1,6 +1,6 @@
 -- A fresh ledger is sound, and every call keeps a ledger sound. Assumes nothing.
 use Rattle.std.proofs.Common.{◌≡◌, ℕ, ◌+◌, ◌<◌, ◌≤◌, true, false, cond, not, ◌≢◌, List, [], ◌∷◌, map, length, get_or, set, refl, ap, ◌∙◌, inl, inr, arith, length-set, get_or-set_other, get_or-set_same}
-use Rattle.std.specs.List.{AllByRecursion as All}
+use Rattle.std.specs.List.{AllByRecursion}
 use Rattle.std.proofs.lemmas.List.{length-map, length-replicate}
 use Rattle.std.proofs.ByRecursion.{All-weaker}
 use Rattle.std.proofs.lemmas.Bool.{cases_lt, and_parts, cond-true, cond_both}
@@ -40,7 +40,7 @@ module _ {E : Type 0} where
   -- reader n changed to one with nothing unread, and the numbers with it
   placed :
       (l : Ledger E) (n : ℕ) (r : Reader E) (freed : List ℕ) (used : ℕ) → Sound l → unread r ≡ [] → n < most_readers → used ≤ most_readers
-      → All (λ m. (m < used) × (get_or (set l.readers n r) m shut ≡ shut)) freed → Distinct freed
+      → AllByRecursion (λ m. (m < used) × (get_or (set l.readers n r) m shut ≡ shut)) freed → Distinct freed
       → open_count l.readers + bit r + length freed ≡ used + bit (reader_at l n)
       → ((m : ℕ) → used ≤ m → get_or (set l.readers n r) m shut ≡ shut)
       → Sound (with_readers l (set l.readers n r) freed used)
@@ -59,7 +59,7 @@ module _ {E : Type 0} where
       }
 
   -- the freed numbers other than n stay shut
-  others : (l : Ledger E) (n used : ℕ) (r : Reader E) (ns : List ℕ) → All (λ m. (m < used) × (reader_at l m ≡ shut)) ns → All (λ m. m ≢ n) ns → All (λ m. (m < used) × (get_or (set l.readers n r) m shut ≡ shut)) ns
+  others : (l : Ledger E) (n used : ℕ) (r : Reader E) (ns : List ℕ) → AllByRecursion (λ m. (m < used) × (reader_at l m ≡ shut)) ns → AllByRecursion (λ m. m ≢ n) ns → AllByRecursion (λ m. (m < used) × (get_or (set l.readers n r) m shut ≡ shut)) ns
   others l n used r [] a d = tt
   others l n used r (m ∷ ns) a d = ((a.0.0, still_shut l.readers n m r d.0 a.0.1), others l n used r ns a.1 d.1)
 
@@ -67,14 +67,14 @@ module _ {E : Type 0} where
   pub next-is : (l : Ledger E) → Sound l → open_count l.readers < most_readers → (next_number l < most_readers) × (reader_at l (next_number l) ≡ shut)
   next-is l s h = go l.freed s.stack s.counted
     where
-      go : (ns : List ℕ) → All (λ m. (m < l.used) × (reader_at l m ≡ shut)) ns → open_count l.readers + length ns ≡ l.used → (number_taken ns l.used < most_readers) × (reader_at l (number_taken ns l.used) ≡ shut)
+      go : (ns : List ℕ) → AllByRecursion (λ m. (m < l.used) × (reader_at l m ≡ shut)) ns → open_count l.readers + length ns ≡ l.used → (number_taken ns l.used < most_readers) × (reader_at l (number_taken ns l.used) ≡ shut)
       go [] a c = (omega arith, s.unused l.used (omega arith))
       go (n ∷ ns) a c = (omega (arith, a.0.0, s.within), a.0.1)
 
   register-sound : (l : Ledger E) → Sound l → open_count l.readers < most_readers → Sound (after_register l)
   register-sound l s h = go l.freed s.stack s.distinct s.counted
     where
-      go : (ns : List ℕ) → All (λ m. (m < l.used) × (reader_at l m ≡ shut)) ns → Distinct ns → open_count l.readers + length ns ≡ l.used
+      go : (ns : List ℕ) → AllByRecursion (λ m. (m < l.used) × (reader_at l m ≡ shut)) ns → Distinct ns → open_count l.readers + length ns ≡ l.used
           → Sound (with_readers l (set l.readers (number_taken ns l.used) (waiting [])) (freed_left ns) (used_then ns l.used))
       go [] a d c =
           let z = ap bit (s.unused l.used (omega arith)) in
@@ -91,7 +91,7 @@ module _ {E : Type 0} where
     open_used : n < l.used
     open_used = elim (cases_lt n l.used) [ inl h ↦ h | inr h ↦ absurd (open_not_shut l n n o (s.unused n h) refl) ]
 
-    open_apart : All (λ m. m ≢ n) l.freed
+    open_apart : AllByRecursion (λ m. m ≢ n) l.freed
     open_apart = All-weaker (λ m. (m < l.used) × (reader_at l m ≡ shut)) (λ m. m ≢ n) (λ m h. open_not_shut l n m o h.1) l.freed s.stack
 
     open_one : bit (reader_at l n) ≡ 1

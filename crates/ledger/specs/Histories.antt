@@ -1,6 +1,6 @@
 -- Lists of calls with what each answered, and what they say of readers. Assumes nothing.
 use Rattle.std.specs.Prelude.{◌≡◌, ℕ, cond, List, [], ◌∷◌, ◌++◌, ◌==◌}
-use Rattle.std.specs.List.{flat_map, AllByRecursion as All}
+use Rattle.std.specs.List.{flat_map, AllByRecursion}
 use Rattle.ledger.specs.Ledger.{Ledger, Call, Answer, Written, Opening, just_opened, outcome}
 use Rattle.ledger.specs.Ledger.Call.{register, write, read, close}
 use Rattle.ledger.specs.Ledger.Answer.{refused, registered, wrote, handed, closed}
@@ -60,7 +60,7 @@ module _ {E : Type 0} where
 
   -- no entry is such a one
   abbrev pub Never : (Entry E → Type 0) → List (Entry E) → Type 0
-  Never P es = All (λ e. P e → ⊥) es
+  Never P es = AllByRecursion (λ e. P e → ⊥) es
 
   -- there is no entry, or the first is such a one
   abbrev pub Begins : (Entry E → Type 0) → List (Entry E) → Type 0

@@ -1,6 +1,6 @@
 -- The laws of the ledger, over single calls and over whole histories. Assumes nothing.
 use Rattle.std.specs.Prelude.{◌≡◌, ℕ, suc, ◌*◌, ◌^◌, ◌<◌, ◌≤◌, true, false, ◌↔◌, List, [], ◌∷◌, ◌++◌, length, Some, None}
-use Rattle.std.specs.List.{AllByRecursion as All}
+use Rattle.std.specs.List.{AllByRecursion}
 use Rattle.ledger.specs.Ledger.{Ledger, Call, Opening, shut, waiting, most_readers, opening_refusal, opened, denied, granted, just_opened, size_for, open_count, reader_at, waiting_for, is_open, Open, would_write, after_write, refusal, outcome}
 use Rattle.ledger.specs.Ledger.Call.{register, write, read, close}
 use Rattle.ledger.specs.Ledger.Answer.{refused, registered, wrote, closed}
@@ -126,7 +126,7 @@ pub record Equal {E : Type 0} (l k : Ledger E) : Type 0 where
 -- a run of accepted writes: any number of them, none included
 pub record RunOfWrites {E : Type 0} (l : Ledger E) (es : List (Entry E)) : Type 0 where
   pub told : Told l es
-  pub writes : All Writes es
+  pub writes : AllByRecursion Writes es
 
 -- a run of accepted writes leaves what one write of their joined events would leave
 abbrev pub RunIsOneWrite : Type 0 → Type 0

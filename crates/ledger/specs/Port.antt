@@ -1,6 +1,6 @@
 -- A program whose calls answer as the ledger does. Assumes nothing.
 use Rattle.std.specs.Prelude.{◌≡◌, ℕ, ◌↔◌, List, [], ◌∷◌, length}
-use Rattle.std.specs.List.{AllByRecursion as All}
+use Rattle.std.specs.List.{AllByRecursion}
 use Rattle.ledger.specs.Ledger.{Ledger, Written, Opening, just_opened, outcome, waiting_for, Open}
 use Rattle.ledger.specs.Ledger.Call.{read, write}
 use Rattle.ledger.specs.Ledger.Answer.{handed, wrote}
@@ -62,7 +62,7 @@ module _ {E St : Type 0} (P : Port E St) where
     pub equal_after_writes :
         (es fs : List (Entry E)) (t u : St) → Calls es t → Calls fs u
         → Equal (P.ledger_of t) (P.ledger_of u) → (n : ℕ) → Open (P.ledger_of t) n
-        → (vs ws : List (Entry E)) (t' u' : St) → Chain t vs t' → Chain u ws u' → All Writes vs → All Writes ws
+        → (vs ws : List (Entry E)) (t' u' : St) → Chain t vs t' → Chain u ws u' → AllByRecursion Writes vs → AllByRecursion Writes ws
         → Equal (P.ledger_of t') (P.ledger_of u') ↔ (accepted vs ≡ accepted ws)
 
 -- the port with every call that the ledger allows: any other port with these states and ledgers has fewer calls

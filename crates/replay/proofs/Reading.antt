@@ -1,5 +1,5 @@
 -- A read hands out no more events than there are slots.
-use Rattle.std.proofs.Common.{◌≡◌, ℕ, ◌+◌, ◌-◌, ◌<◌, ◌≤◌, Bool, true, false, cond, eqb, List, ◌++◌, length, get_or, take, Some, Option, sym, ap, ◌∙◌, mod-lt, arith, length-take}
+use Rattle.std.proofs.Common.{◌≡◌, ℕ, ◌+◌, ◌-◌, ◌<◌, ◌≤◌, Bool, true, false, cond, eqb, List, ◌++◌, length, get_or, Some, Option, sym, ap, ◌∙◌, mod-lt, arith, length-take}
 use Rattle.ledger.specs.Ledger.{Ledger, Answer, outcome}
 use Rattle.ledger.specs.Ledger.Call.{read}
 use Rattle.ledger.specs.Ledger.Answer.{handed}

@@ -1,11 +1,10 @@
 -- Each public call answers as the ledger does.
-use Rattle.std.proofs.Common.{◌≡◌, ℕ, false, eqb, ◌≢◌, ◌⊎◌, List, length, Ok, Err, Result, sym, refl, ap, ◌∙◌, subst, inl, inr, ⊎_elim, arith}
+use Rattle.std.proofs.Common.{◌≡◌, ℕ, false, eqb, ◌≢◌, List, length, Ok, Err, Result, sym, refl, ap, ◌∙◌, subst, inl, inr, arith}
 use Rattle.std.proofs.lemmas.Bool.{ne_eqb}
 use Rattle.source.specs.declared.fault.Fault.{Fault}
 use Rattle.ledger.specs.Ledger.{Ledger, Call, Answer, outcome}
 use Rattle.ledger.specs.Ledger.Call.{register, write, read, close}
 use Rattle.ledger.specs.Ledger.Answer.{refused}
-use Rattle.ledger.specs.Histories.{Entry}
 use Rattle.ledger.proofs.Ports.{port_laws}
 use Rattle.ledger.specs.Port.{widest}
 use Rattle.storage.specs.declared.ring.RingBuffer.{RingBuffer}
@@ -16,7 +15,7 @@ use Rattle.storage.specs.Ledgers.{hands}
 use Rattle.storage.specs.Writes.{Stores, writes}
 use Rattle.shrev.specs.declared.channel.EventChannel.{EventChannel}
 use Rattle.shrev.specs.Channels.{ledger_of, Unchanged}
-use Rattle.replay.specs.Steps.{Held, ledger_held, Registers, Closes, Writes, Reads, Step, Does, CallsAnswer, ChannelsKeepLaws, channel_port}
+use Rattle.replay.specs.Steps.{Held, ledger_held, Does, CallsAnswer, ChannelsKeepLaws, channel_port}
 
 module _ {E : Type 0} where
   -- slots of another count are refused before anything else is looked at

@@ -1,15 +1,14 @@
 -- A whole run on a channel just opened, and the laws that it keeps.
-use Rattle.std.proofs.Common.{◌≡◌, ℕ, List, length, take, sym, refl, ap, ◌∙◌, subst}
+use Rattle.std.proofs.Common.{◌≡◌, ℕ, List, length, take, sym, ap, ◌∙◌, subst}
 use mathlib.Core.Path.{subst⁻¹}
 use Rattle.ledger.specs.Ledger.{Ledger, Opening, just_opened}
 use Rattle.ledger.specs.Ledger as ledger
-use Rattle.ledger.specs.Histories.{Entry, Told, after, History, at_end}
+use Rattle.ledger.specs.Histories.{Told, after, History, at_end}
 use Rattle.ledger.proofs.Refusals.{opening-figures}
 use Rattle.ledger.proofs.Totals.{reached-sound, readers_hold, equal_totals, equal_waiting}
 use Rattle.ledger.proofs.Found.{registrations}
 use Rattle.ledger.proofs.Runs.{equal_after_writes}
 use Rattle.storage.specs.declared.grant.Grant.{Grant}
-use Rattle.storage.specs.declared.util.Issuer.{Issuer}
 use Rattle.storage.specs.Openings.{Granted}
 use Rattle.shrev.specs.declared.channel.EventChannel.{EventChannel}
 use Rattle.shrev.specs.Channels.{ledger_of}

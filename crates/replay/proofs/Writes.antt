@@ -1,5 +1,5 @@
 -- One call of a list that writes into the channel's own slots.
-use Rattle.std.proofs.Common.{◌≡◌, ℕ, ◌≤◌, List, length, take, drop, Some, refl, arith}
+use Rattle.std.proofs.Common.{◌≡◌, ℕ, List, length, Some, refl, arith}
 use mathlib.Core.Path.{subst⁻¹}
 use Rattle.ledger.specs.Ledger.Call.{write}
 use Rattle.replay.specs.declared.words.Call.{Call}

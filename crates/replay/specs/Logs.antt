@@ -1,5 +1,5 @@
 -- Answers whose events stand in a log, and what every run keeps. Assumes nothing.
-use Rattle.std.specs.Prelude.{◌≡◌, ℕ, ◌+◌, ◌*◌, ◌<◌, ◌≤◌, ◌↔◌, List, [], ◌∷◌, ◌++◌, length, take, drop, Some, None, Ok, Err, Option, Result}
+use Rattle.std.specs.Prelude.{◌≡◌, ℕ, ◌+◌, ◌*◌, ◌<◌, ◌≤◌, ◌↔◌, List, [], ◌∷◌, length, take, drop, Some, None, Ok, Err, Option, Result}
 use Rattle.source.specs.Faults.{number_of}
 use Rattle.ledger.specs.Ledger.{Ledger, Answer, Opening, just_opened, opening_refusal, waiting_for, Open}
 use Rattle.ledger.specs.Ledger.Answer.{refused, registered, wrote, handed, closed}
@@ -18,7 +18,7 @@ use Rattle.replay.specs.declared.words.NotRun.{NotRun}
 use Rattle.replay.specs.declared.words.NotRun.TheVariants.{FewNotes, ShortLog, Denied}
 use Rattle.replay.specs.declared.words.Replayed.{Replayed}
 use Rattle.replay.specs.Steps.{ledger_held}
-use Rattle.replay.specs.Runs.{State, state, ledger_in, Took, Ran}
+use Rattle.replay.specs.Runs.{State, state, Took, Ran}
 
 -- how many events of the log a note counts
 abbrev pub events : Note → ℕ

@@ -1,6 +1,6 @@
 -- Every number of a session fits 64 bits, where those of its records do.
 use Rattle.std.proofs.Common.{◌≡◌, ℕ, zero, suc, ◌^◌, ◌<◌, Bool, cond, not, ◌&&◌, ltb, List, [], ◌∷◌, map, length, get_or, replicate, Some, None, Option, refl, ◌∙◌, subst, arith}
-use Rattle.std.specs.List.{AllByRecursion as All}
+use Rattle.std.specs.List.{AllByRecursion}
 use Rattle.std.proofs.ByRecursion.{All-append, All-set}
 use Rattle.std.proofs.lemmas.Bool.{cond_both}
 use Rattle.ledger.specs.Ledger as ledger
@@ -13,7 +13,7 @@ use Rattle.script.specs.declared.mark.Mark.{Mark}
 use Rattle.script.specs.declared.mark.Mark.TheVariants as mark
 use Rattle.script.specs.Records.{Record, opening, register, would_write, write, read, close}
 use Rattle.script.specs.Telling.{Fitting}
-use Rattle.runner.specs.Sessions.{slot_count, told, shows, answered, answers, begun, first, session}
+use Rattle.runner.specs.Sessions.{slot_count, told, answered, answers, begun, first, session}
 use Rattle.runner.specs.Laws.{answers_of}
 
 abbrev pub Small : ℕ → Type 0
@@ -23,7 +23,7 @@ abbrev pub Fit : Record → Type 0
 Fit (opening size) = Small size
 Fit register = Unit {0}
 Fit would_write = Unit {0}
-Fit (write events) = Small (length events) × All Small events
+Fit (write events) = Small (length events) × AllByRecursion Small events
 Fit (read reader) = Small reader
 Fit (close reader) = Small reader
 
@@ -59,27 +59,27 @@ small_refusal l (ledger.close instance reader) =
 
 -- a reader whose unread events are small
 abbrev Holds : Reader ℕ → Type 0
-Holds r = All Small (unread r)
+Holds r = AllByRecursion Small (unread r)
 
 -- a ledger that a script's calls can reach
 pub record Near (l : Ledger ℕ) : Type 0 where
   pub sound : Sound l
   pub slots : l.slots ≡ slot_count
-  pub holds : All Holds l.readers
+  pub holds : AllByRecursion Holds l.readers
 
 -- the events of a call are small
 abbrev Sent : Call ℕ → Type 0
 Sent ledger.register = Unit {0}
-Sent (ledger.write slots new) = Small (length new) × All Small new
+Sent (ledger.write slots new) = Small (length new) × AllByRecursion Small new
 Sent (ledger.read slots instance n) = Unit {0}
 Sent (ledger.close instance n) = Unit {0}
 
-joined_holds : (new : List ℕ) (rs : List (Reader ℕ)) → All Small new → All Holds rs → All Holds (map (joined_by new) rs)
+joined_holds : (new : List ℕ) (rs : List (Reader ℕ)) → AllByRecursion Small new → AllByRecursion Holds rs → AllByRecursion Holds (map (joined_by new) rs)
 joined_holds new [] small h = tt
 joined_holds new (shut ∷ rs) small h = (tt, joined_holds new rs small h.1)
 joined_holds new (waiting xs ∷ rs) small h = (All-append Small xs new h.0 small, joined_holds new rs small h.1)
 
-reader_holds : (rs : List (Reader ℕ)) (n : ℕ) → All Holds rs → Holds (get_or rs n shut)
+reader_holds : (rs : List (Reader ℕ)) (n : ℕ) → AllByRecursion Holds rs → Holds (get_or rs n shut)
 reader_holds [] zero h = tt
 reader_holds [] (suc n) h = tt
 reader_holds (r ∷ rs) zero h = h.0
@@ -88,9 +88,9 @@ reader_holds (r ∷ rs) (suc n) h = reader_holds rs n h.1
 written-slots : (l : Ledger ℕ) (new : List ℕ) → (after_write l new).slots ≡ l.slots
 written-slots l new = cond_both (changes l new) (with_events l new) l (λ k. k.slots ≡ l.slots) (λ _. refl) (λ _. refl)
 
-written-holds : (l : Ledger ℕ) (new : List ℕ) → All Small new → All Holds l.readers → All Holds (after_write l new).readers
+written-holds : (l : Ledger ℕ) (new : List ℕ) → AllByRecursion Small new → AllByRecursion Holds l.readers → AllByRecursion Holds (after_write l new).readers
 written-holds l new small h =
-    cond_both (changes l new) (with_events l new) l (λ k. All Holds k.readers) (λ _. joined_holds new l.readers small h) (λ _. h)
+    cond_both (changes l new) (with_events l new) l (λ k. AllByRecursion Holds k.readers) (λ _. joined_holds new l.readers small h) (λ _. h)
 
 -- the count of slots stays, and small events come to wait only
 taken-slots : (l : Ledger ℕ) (c : Call ℕ) → (taken l c).1.slots ≡ l.slots
@@ -99,7 +99,7 @@ taken-slots l (ledger.write slots new) = written-slots l new
 taken-slots l (ledger.read slots instance n) = refl
 taken-slots l (ledger.close instance n) = refl
 
-taken-holds : (l : Ledger ℕ) (c : Call ℕ) → Sent c → All Holds l.readers → All Holds (taken l c).1.readers
+taken-holds : (l : Ledger ℕ) (c : Call ℕ) → Sent c → AllByRecursion Holds l.readers → AllByRecursion Holds (taken l c).1.readers
 taken-holds l ledger.register sent h = All-set Holds l.readers (ledger.next_number l) (waiting []) tt h
 taken-holds l (ledger.write slots new) sent h = written-holds l new sent.1 h
 taken-holds l (ledger.read slots instance n) sent h = All-set Holds l.readers n (waiting []) tt h
@@ -110,7 +110,7 @@ near_then l c sent near =
     record {
       sound = keeps_sound l c near.sound;
       slots = by_outcome (λ _ k. k.slots ≡ slot_count) l c (λ _ _. near.slots) (λ _. taken-slots l c ∙ near.slots);
-      holds = by_outcome (λ _ k. All Holds k.readers) l c (λ _ _. near.holds) (λ _. taken-holds l c sent near.holds);
+      holds = by_outcome (λ _ k. AllByRecursion Holds k.readers) l c (λ _ _. near.holds) (λ _. taken-holds l c sent near.holds);
     }
 
 -- what an accepted call shows is small
@@ -143,13 +143,13 @@ answered-fits l (close reader) fit near =
     let c : Call ℕ = ledger.close l.instance reader in
     (call_fits l c mark.Close reader tt fit near, near_then l c tt near)
 
-answers-fit : (l : Ledger ℕ) (rs : List (ℕ × Record)) → All (λ r. Fit r.1) rs → Near l → All Fitting (answers_of (answers l rs))
+answers-fit : (l : Ledger ℕ) (rs : List (ℕ × Record)) → AllByRecursion (λ r. Fit r.1) rs → Near l → AllByRecursion Fitting (answers_of (answers l rs))
 answers-fit l [] fit near = tt
 answers-fit l (r ∷ rs) fit near =
     let one = answered-fits l r.1 fit.0 near in
     (one.0, answers-fit (answered l r.1).1 rs fit.1 one.1)
 
-shut-hold : (n : ℕ) → All Holds (replicate n shut)
+shut-hold : (n : ℕ) → AllByRecursion Holds (replicate n shut)
 shut-hold zero = tt
 shut-hold (suc n) = (tt, shut-hold n)
 
@@ -160,12 +160,12 @@ fresh-near size granted =
     let same : just_opened {E = ℕ} o ≡ fresh 0 size slot_count = let p = figures.1 in let q = figures.2 in let r = figures.3 in cc in
     record { sound = subst Sound same (opened-sound o); slots = refl; holds = shut-hold 64 }
 
-begun-fits : (refusal : Option ℕ) (at size : ℕ) (rest : List (ℕ × Record)) → opening_refusal 0 size slot_count ≡ refusal → Small size → All (λ r. Fit r.1) rest
-    → All Fitting (answers_of (begun refusal at size rest))
+begun-fits : (refusal : Option ℕ) (at size : ℕ) (rest : List (ℕ × Record)) → opening_refusal 0 size slot_count ≡ refusal → Small size → AllByRecursion (λ r. Fit r.1) rest
+    → AllByRecursion Fitting (answers_of (begun refusal at size rest))
 begun-fits (Some n) at size rest is small fit = ((small_opening 0 size slot_count).number n is, tt)
 begun-fits None at size rest is small fit = (small, answers-fit (fresh 0 size slot_count) rest fit (fresh-near size is))
 
-first_fits : (at : ℕ) (r : Record) (rest : List (ℕ × Record)) → Fit r → All (λ r. Fit r.1) rest → All Fitting (answers_of (first at r rest))
+first_fits : (at : ℕ) (r : Record) (rest : List (ℕ × Record)) → Fit r → AllByRecursion (λ r. Fit r.1) rest → AllByRecursion Fitting (answers_of (first at r rest))
 first_fits at (opening size) rest small fit = begun-fits (opening_refusal 0 size slot_count) at size rest refl small fit
 first_fits at register rest small fit = tt
 first_fits at would_write rest small fit = tt
@@ -173,6 +173,6 @@ first_fits at (write events) rest small fit = tt
 first_fits at (read reader) rest small fit = tt
 first_fits at (close reader) rest small fit = tt
 
-pub session-fits : (rs : List (ℕ × Record)) → All (λ r. Fit r.1) rs → All Fitting (answers_of (session rs))
+pub session-fits : (rs : List (ℕ × Record)) → AllByRecursion (λ r. Fit r.1) rs → AllByRecursion Fitting (answers_of (session rs))
 session-fits [] fit = tt
 session-fits (r ∷ rs) fit = first_fits r.0 r.1 rs fit.0 fit.1

@@ -1,6 +1,6 @@
 -- What can be told of the printed text of whole sessions. Assumes nothing.
 use Rattle.std.specs.Prelude.{◌≡◌, ℕ, ◌<◌, ◌≤◌, List, ◌++◌, map, None, Ok}
-use Rattle.std.specs.List.{AllByRecursion as All}
+use Rattle.std.specs.List.{AllByRecursion}
 use Rattle.script.specs.Lines.{Answered}
 use Rattle.script.specs.Records.{Record, meaning}
 use Rattle.runner.specs.Sessions.{session, printed}
@@ -19,7 +19,7 @@ answers_of lines = map (λ a. a.1) lines
 -- two scripts whose lines were printed whole, into the same text, were answered the same
 abbrev pub TextTells : Type 0
 TextTells =
-    (room more : ℕ) (s t : List ℕ) (rs ts : List (ℕ × Record)) → All (λ b. b < 256) s → All (λ b. b < 256) t
+    (room more : ℕ) (s t : List ℕ) (rs ts : List (ℕ × Record)) → AllByRecursion (λ b. b < 256) s → AllByRecursion (λ b. b < 256) t
     → meaning s ≡ Ok rs → meaning t ≡ Ok ts
     → (printed room (session rs)).1 ≡ None → (printed more (session ts)).1 ≡ None
     → (printed room (session rs)).0 ≡ (printed more (session ts)).0

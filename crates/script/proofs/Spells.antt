@@ -1,6 +1,6 @@
 -- What was written down is read.
 use Rattle.std.proofs.Common.{◌≡◌, ℕ, suc, ◌+◌, ◌*◌, ◌/◌, ◌%◌, ◌^◌, ◌<◌, ◌≤◌, true, false, eqb, leb, List, [], ◌∷◌, ◌++◌, length, take, drop, Ok, sym, refl, ap, ◌∙◌, append_assoc, append-nil, arith, length-append}
-use Rattle.std.specs.List.{flat_map, AllByRecursion as All}
+use Rattle.std.specs.List.{flat_map, AllByRecursion}
 use Rattle.std.specs.Int.Digits.{number_from_digits}
 use Rattle.std.proofs.ByRecursion.{All-append}
 use Rattle.std.proofs.lemmas.List.{take_at, drop_at}
@@ -19,7 +19,7 @@ two n = omega arith
 four : (n : ℕ) → n < 2 ^ 32 → number_from_digits 256 ((n / 16777216) ∷ (n / 65536 % 256) ∷ (n / 256 % 256) ∷ (n % 256) ∷ []) ≡ n
 four n h = omega arith
 
-numbers-words : (ns : List ℕ) → All (λ n. n < 2 ^ 32) ns → numbers (words ns) ≡ ns
+numbers-words : (ns : List ℕ) → AllByRecursion (λ n. n < 2 ^ 32) ns → numbers (words ns) ≡ ns
 numbers-words [] h = refl
 numbers-words (n ∷ ns) h = let one = four n h.0 in let rest = numbers-words ns h.1 in cc
 
@@ -58,7 +58,7 @@ two_or_more (read reader) = omega arith
 two_or_more (close reader) = omega arith
 
 -- behind some bytes, one record and then the rest
-onwards : (pre : List ℕ) (r : Record) (rs : List Record) → record_of (pre ++ flat_map spelled (r ∷ rs)) (length pre) ≡ Ok (r, length (spelled r)) → All Later rs
+onwards : (pre : List ℕ) (r : Record) (rs : List Record) → record_of (pre ++ flat_map spelled (r ∷ rs)) (length pre) ≡ Ok (r, length (spelled r)) → AllByRecursion Later rs
     → rest_of (pre ++ flat_map spelled (r ∷ rs)) (length pre) ≡ Ok (placed (length pre) (r ∷ rs))
 onwards pre r [] is h =
     let long : length (pre ++ flat_map spelled (r ∷ [])) ≡ length pre + length (spelled r) = length-append pre (spelled r ++ []) ∙ ap (λ xs. length pre + length xs) (append-nil (spelled r)) in
@@ -81,12 +81,12 @@ onwards pre r (q ∷ rs) is h =
     rest_more script (length pre) (r, length (spelled r)) (omega arith) is (omega arith) ∙ ap (before (length pre) r) moved
 
 -- what is written down are bytes
-bytes_words : (ns : List ℕ) → All (λ n. n < 2 ^ 32) ns → All (λ b. b < 256) (words ns)
+bytes_words : (ns : List ℕ) → AllByRecursion (λ n. n < 2 ^ 32) ns → AllByRecursion (λ b. b < 256) (words ns)
 bytes_words [] h = tt
 bytes_words (n ∷ ns) h =
     let small = h.0 in (omega arith, (omega arith, (omega arith, (omega arith, bytes_words ns h.1))))
 
-bytes_later : (r : Record) → Later r → All (λ b. b < 256) (spelled r)
+bytes_later : (r : Record) → Later r → AllByRecursion (λ b. b < 256) (spelled r)
 bytes_later (opening size) h = absurd h
 bytes_later register h = (omega arith, (omega arith, tt))
 bytes_later would_write h = (omega arith, (omega arith, tt))
@@ -94,7 +94,7 @@ bytes_later (write events) h = (omega arith, (omega arith, (h.0, bytes_words eve
 bytes_later (read reader) h = (omega arith, (omega arith, (h, tt)))
 bytes_later (close reader) h = (omega arith, (omega arith, (h, tt)))
 
-bytes_joined : (rs : List Record) → All Later rs → All (λ b. b < 256) (flat_map spelled rs)
+bytes_joined : (rs : List Record) → AllByRecursion Later rs → AllByRecursion (λ b. b < 256) (flat_map spelled rs)
 bytes_joined [] h = tt
 bytes_joined (r ∷ rs) h =
     All-append (λ b. b < 256) (spelled r) (flat_map spelled rs) (bytes_later r h.0) (bytes_joined rs h.1)

@@ -2,7 +2,7 @@
 use Rattle.std.proofs.Common.{◌≡◌, ℕ, ◌^◌, ◌<◌, Bool, true, false, cond, eqb, List, [], ◌∷◌, ◌++◌, length, get_or, take, drop, Some, codes, decimal, sym, refl, ap, ◌∙◌, subst, append_assoc, append-nil, arith, length-append}
 use Rattle.std.specs.Str.Parse.{AllDigits}
 use Rattle.std.specs.Int.{IsInRange}
-use Rattle.std.specs.List.{flat_map, AllByRecursion as All}
+use Rattle.std.specs.List.{flat_map, AllByRecursion}
 use Rattle.std.proofs.lemmas.Fmt.{digits_decimal, decimal_nonempty, decimal_injective}
 use Rattle.std.proofs.ByRecursion.{All-append}
 use Rattle.std.proofs.lemmas.List.{take_at, drop_at}
@@ -44,7 +44,7 @@ stops_spaced : (es s : List ℕ) → Stops (spaced es ++ (10 ∷ s))
 stops_spaced [] s = λ h. omega arith
 stops_spaced (e ∷ es) s = λ h. omega arith
 
-events-tell : (es fs s t : List ℕ) → All (λ e. e < 2 ^ 64) es → All (λ e. e < 2 ^ 64) fs
+events-tell : (es fs s t : List ℕ) → AllByRecursion (λ e. e < 2 ^ 64) es → AllByRecursion (λ e. e < 2 ^ 64) fs
     → spaced es ++ (10 ∷ s) ≡ spaced fs ++ (10 ∷ t) → (es ≡ fs) × (s ≡ t)
 events-tell [] [] s t he hf e = (refl, cc)
 events-tell [] (f ∷ fs) s t he hf e = let z : ◌≡◌ {A = ℕ} 10 32 = cc in absurd (omega arith)
@@ -63,7 +63,7 @@ events-tell (e ∷ es) (f ∷ fs) s t he hf p =
 abbrev colon : Bool → List ℕ
 colon b = cond b (58 ∷ []) []
 
-tails_tell : (g h : Bool) (es fs s t : List ℕ) → All (λ e. e < 2 ^ 64) es → All (λ e. e < 2 ^ 64) fs
+tails_tell : (g h : Bool) (es fs s t : List ℕ) → AllByRecursion (λ e. e < 2 ^ 64) es → AllByRecursion (λ e. e < 2 ^ 64) fs
     → colon g ++ (spaced es ++ (10 ∷ s)) ≡ colon h ++ (spaced fs ++ (10 ∷ t)) → (es ≡ fs) × (s ≡ t)
 tails_tell true true es fs s t he hf e = events-tell es fs s t he hf cc
 tails_tell true false es [] s t he hf e = let z : ◌≡◌ {A = ℕ} 58 10 = cc in absurd (omega arith)
@@ -144,7 +144,7 @@ first_fits (handed reader events) h = h.0
 first_fits (closed reader) h = h
 first_fits (refused m number) h = h
 
-others_fit : (a : Answered) → Fitting a → All (λ e. e < 2 ^ 64) (others a)
+others_fit : (a : Answered) → Fitting a → AllByRecursion (λ e. e < 2 ^ 64) (others a)
 others_fit (opened size) h = tt
 others_fit (registered reader) h = tt
 others_fit (would_write yes_or_no) h = tt
@@ -247,7 +247,7 @@ lines_tell (x ∷ xs) (y ∷ ys) hx hy e =
 
 -- no line feed inside a line
 abbrev Plain : List ℕ → Type 0
-Plain xs = All (λ c. c ≡ 10 → ⊥) xs
+Plain xs = AllByRecursion (λ c. c ≡ 10 → ⊥) xs
 
 plain_digits : (ds : List ℕ) → AllDigits 10 ds → Plain ds
 plain_digits [] d = tt
@@ -257,7 +257,7 @@ plain_digits (c ∷ cs) d =
 plain_number : (n : ℕ) → n < 2 ^ 64 → Plain (decimal n)
 plain_number n h = plain_digits (decimal n) (decimal_digits n h)
 
-plain_spaced : (es : List ℕ) → All (λ e. e < 2 ^ 64) es → Plain (spaced es)
+plain_spaced : (es : List ℕ) → AllByRecursion (λ e. e < 2 ^ 64) es → Plain (spaced es)
 plain_spaced [] h = tt
 plain_spaced (e ∷ es) h =
     ((λ z. omega arith), All-append (λ c. c ≡ 10 → ⊥) (decimal e) (spaced es) (plain_number e h.0) (plain_spaced es h.1))

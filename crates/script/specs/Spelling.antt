@@ -1,6 +1,6 @@
 -- How the records of a script are written down, and that this is how they are read. Assumes nothing.
 use Rattle.std.specs.Prelude.{◌≡◌, ℕ, ◌+◌, ◌/◌, ◌%◌, ◌^◌, ◌<◌, List, [], ◌∷◌, ◌++◌, length, Ok, codes}
-use Rattle.std.specs.List.{flat_map, AllByRecursion as All}
+use Rattle.std.specs.List.{flat_map, AllByRecursion}
 use Rattle.script.specs.Records.{Record, opening, register, would_write, write, read, close, meaning}
 
 -- four bytes each, the first weighing most
@@ -21,7 +21,7 @@ abbrev pub Later : Record → Type 0
 Later (opening size) = ⊥
 Later register = Unit {0}
 Later would_write = Unit {0}
-Later (write events) = (length events < 256) × All (λ e. e < 2 ^ 32) events
+Later (write events) = (length events < 256) × AllByRecursion (λ e. e < 2 ^ 32) events
 Later (read reader) = reader < 256
 Later (close reader) = reader < 256
 
@@ -33,6 +33,6 @@ placed at (r ∷ rs) = (at, r) ∷ placed (at + length (spelled r)) rs
 -- an opening and then any records that are none, written one behind another, are bytes that mean that list
 abbrev pub ReadsBack : Type 0
 ReadsBack =
-    (size : ℕ) (rs : List Record) → size < 65536 → All Later rs
-    → All (λ b. b < 256) (flat_map spelled (opening size ∷ rs))
+    (size : ℕ) (rs : List Record) → size < 65536 → AllByRecursion Later rs
+    → AllByRecursion (λ b. b < 256) (flat_map spelled (opening size ∷ rs))
     × (meaning (flat_map spelled (opening size ∷ rs)) ≡ Ok (placed 0 (opening size ∷ rs)))

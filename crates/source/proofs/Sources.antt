@@ -1,5 +1,5 @@
 -- What a draw leaves of a cut list and of numbers in a row.
-use Rattle.std.proofs.Common.{◌≡◌, ℕ, zero, suc, ◌+◌, ◌-◌, ◌<◌, List, [], ◌∷◌, map, length, take, sym, refl, ap, ◌∙◌, arith}
+use Rattle.std.proofs.Common.{◌≡◌, ℕ, zero, suc, ◌+◌, ◌-◌, ◌<◌, List, [], ◌∷◌, map, length, take, refl, ap, ◌∙◌, arith}
 use Rattle.source.specs.Counting.{up_from}
 
 pub take-cons : {E : Type 0} (n : ℕ) (x : E) (xs : List E) → 0 < n → take n (x ∷ xs) ≡ x ∷ take (n - 1) xs

@@ -1,5 +1,5 @@
 -- What a ring keeps of each open reader, through registering, reading and closing.
-use Rattle.std.proofs.Common.{◌≡◌, ℕ, zero, suc, ◌+◌, ◌-◌, ◌%◌, ◌^◌, ◌<◌, ◌≤◌, true, false, List, [], ◌∷◌, get_or, set, Some, sym, refl, ap, subst, arith}
+use Rattle.std.proofs.Common.{◌≡◌, ℕ, zero, suc, ◌-◌, ◌^◌, ◌<◌, ◌≤◌, true, false, List, [], ◌∷◌, get_or, set, Some, sym, refl, ap, subst, arith}
 use Rattle.std.proofs.lemmas.Bool.{both_ways}
 use Rattle.storage.specs.declared.reader.Reader.{Reader}
 use Rattle.storage.specs.declared.reader.ReaderMeta.{ReaderMeta}
@@ -51,7 +51,7 @@ module _ (last size generation available : ℕ) where
         level : Level g.readers last generation;
         whole : Whole g;
         stack : Stack g;
-        apart : Apart g
+        apart : Apart g;
       }
 
   pub kept : (g : ReaderMeta) → Each Fine g.readers → Sound g size → Kept g
@@ -90,7 +90,7 @@ module _ (available last size slots generation : ℕ) (g : ReaderMeta) where
         level : Level g.readers last generation;
         whole : Whole g;
         stack : Stack g;
-        apart : Apart g
+        apart : Apart g;
       }
 
   pub facts : 2 ≤ size → size ≤ slots → slots ≤ 1048576 → last < size → available ≤ size → Kept last size generation available g → Facts

@@ -1,18 +1,18 @@
 -- Registering and closing, from the table of readers to the ledger.
-use Rattle.std.proofs.Common.{◌≡◌, ℕ, zero, suc, ◌+◌, ◌-◌, ◌<◌, ◌≤◌, min, Bool, true, false, cond, ◌≢◌, List, [], ◌∷◌, ◌++◌, map, length, get_or, take, drop, set, Some, None, Option, sym, refl, ap, ◌∙◌, subst, ⊎_elim, arith, length-append, length-drop, length-take}
+use Rattle.std.proofs.Common.{◌≡◌, ℕ, ◌+◌, ◌-◌, ◌<◌, ◌≤◌, false, ◌≢◌, List, [], ◌∷◌, map, length, get_or, set, Some, None, Option, sym, refl, ap, ◌∙◌, ⊎_elim, arith, length-append, length-drop, length-take}
 use Rattle.std.proofs.lemmas.List.{map-set, drop_all}
-use Rattle.std.proofs.lemmas.Bool.{eq-eqb, ne_eqb, le-leb, cases_eq}
+use Rattle.std.proofs.lemmas.Bool.{eq-eqb, le-leb, cases_eq}
 use Rattle.ledger.specs.Ledger as ledger
 use Rattle.ledger.specs.Ledger.{Ledger, Answer, Call, outcome, refusal, taken, decided}
 use Rattle.ledger.proofs.Refusals.{suffices}
 use Rattle.storage.specs.declared.reader.Reader.{Reader}
 use Rattle.storage.specs.declared.reader.ReaderMeta.{ReaderMeta}
-use Rattle.storage.specs.Registry.{blank, Live, distance}
-use Rattle.storage.specs.Meta.{most, lives, fresh, closed, Alloc, opened, removed, number, Whole, Stack}
+use Rattle.storage.specs.Registry.{blank, Live}
+use Rattle.storage.specs.Meta.{most, lives, fresh, closed, Alloc, opened, removed, Whole, Stack}
 use Rattle.storage.specs.Slots.{waiting_in, recent}
 use Rattle.storage.specs.Ledgers.{stack_of, reader_of, ledger_with}
 use Rattle.storage.proofs.Distances.{distance-fresh}
-use Rattle.storage.proofs.Keeps.{alloc_full, live-within, room-to_free, lives-le}
+use Rattle.storage.proofs.Keeps.{alloc_full, room-to_free}
 use Rattle.storage.proofs.Lifts.{stack_top, stack-below, stack-used, stack-pushed, open_count-of, open_at_of}
 
 module _ {E : Type 0} where

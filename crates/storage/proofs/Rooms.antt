@@ -1,7 +1,6 @@
 -- Room for new events, from the table of readers to the ledger's rule.
-use Rattle.std.proofs.Common.{◌≡◌, ℕ, ◌+◌, ◌-◌, ◌*◌, ◌%◌, ◌<◌, ◌≤◌, Bool, true, false, cond, not, ◌&&◌, eqb, ltb, List, [], ◌∷◌, map, length, get_or, Some, None, sym, refl, ap, ◌∙◌, subst, ⊎_elim, arith}
-use Rattle.std.proofs.lemmas.Bool.{cases_lt, lt-ltb, le-ltb, lt-leb, le-leb, eq-eqb, ne_eqb, both_ways}
-use Rattle.ledger.specs.Ledger as ledger
+use Rattle.std.proofs.Common.{◌≡◌, ℕ, ◌+◌, ◌-◌, ◌*◌, ◌%◌, ◌<◌, ◌≤◌, Bool, true, false, eqb, List, length, get_or, Some, None, sym, refl, ap, ◌∙◌, ⊎_elim, arith}
+use Rattle.std.proofs.lemmas.Bool.{cases_lt, lt-ltb, le-ltb, lt-leb, eq-eqb, ne_eqb, both_ways}
 use Rattle.ledger.specs.Ledger.{Ledger, would_write, size_for, longest}
 use Rattle.ledger.proofs.Readers.{any_open_from, longest-shut}
 use Rattle.ledger.proofs.Sizes.{size_laws, size-doubles}
@@ -9,7 +8,7 @@ use Rattle.storage.specs.declared.reader.Reader.{Reader}
 use Rattle.storage.specs.declared.ring.RingBuffer.{RingBuffer}
 use Rattle.storage.specs.Registry.{blank, Live, distance}
 use Rattle.storage.specs.Meta.{most, Nearest}
-use Rattle.storage.specs.Ledgers.{reader_of, ledger_of}
+use Rattle.storage.specs.Ledgers.{ledger_of}
 use Rattle.storage.specs.Slots.{waiting_in, grown}
 use Rattle.storage.specs.Kept.{Ahead}
 use Rattle.storage.specs.declared.circular.CircularIndex.{CircularIndex}

@@ -1,5 +1,5 @@
 -- Storing, from the slots to the ledger's readers.
-use Rattle.std.proofs.Common.{◌≡◌, ℕ, ◌+◌, ◌-◌, ◌%◌, ◌^◌, ◌<◌, ◌≤◌, Bool, true, false, cond, ◌≢◌, List, [], ◌∷◌, ◌++◌, map, length, get_or, drop, sym, refl, ap, ◌∙◌, subst, mod-lt, arith}
+use Rattle.std.proofs.Common.{◌≡◌, ℕ, ◌+◌, ◌-◌, ◌%◌, ◌^◌, ◌<◌, ◌≤◌, Bool, true, false, ◌≢◌, List, map, length, get_or, drop, sym, refl, ap, ◌∙◌, subst, mod-lt, arith}
 use Rattle.std.proofs.lemmas.List.{length-map}
 use Rattle.ledger.specs.Ledger as ledger
 use Rattle.ledger.specs.Ledger.{Ledger}
@@ -8,7 +8,7 @@ use Rattle.storage.specs.Registry.{blank, Live, distance, shifted}
 use Rattle.storage.specs.Kept.{lag, Ahead, Bounded, Lags, Level}
 use Rattle.storage.specs.declared.reader.ReaderMeta.{ReaderMeta}
 use Rattle.storage.specs.Meta.{Places, Sound, shifted_all}
-use Rattle.storage.specs.Slots.{waiting_in, recent, stored, last_after, grown}
+use Rattle.storage.specs.Slots.{recent, stored, last_after, grown}
 use Rattle.storage.specs.declared.ring.RingBuffer.{RingBuffer}
 use Rattle.storage.specs.Ledgers.{reader_of, stack_of, ledger_with, ledger_of}
 use Rattle.storage.specs.Writes.{with_size, with_joined}
@@ -184,21 +184,21 @@ module _ {E : Type 0} (r : RingBuffer E) (fits : r.generation < 2 ^ 64) where
       let kept = shifted-sound meta last r.generation g size sound in
       let P : ReaderMeta → Type 0 = Facts (left + g) last (size + g) r.slots r.generation in
       subst P (sym e) (
-        record {
-          small = omega (arith, r.small);
-          room = room;
-          few = r.few;
-          within = omega (arith, r.within);
-          spare = omega arith;
-          ahead = grown-ahead meta.readers last size r.generation r.available g table some left ahead;
-          places = kept.0;
-          bounded = grown-bounded meta.readers last size r.generation r.available g table some;
-          lags = grown-lags meta.readers last size r.generation r.available g table some;
-          level = grown-level meta.readers last size r.generation r.available g table some;
-          whole = kept.1;
-          stack = kept.2;
-          apart = kept.3;
-        }
+      record {
+        small = omega (arith, r.small);
+        room = room;
+        few = r.few;
+        within = omega (arith, r.within);
+        spare = omega arith;
+        ahead = grown-ahead meta.readers last size r.generation r.available g table some left ahead;
+        places = kept.0;
+        bounded = grown-bounded meta.readers last size r.generation r.available g table some;
+        lags = grown-lags meta.readers last size r.generation r.available g table some;
+        level = grown-level meta.readers last size r.generation r.available g table some;
+        whole = kept.1;
+        stack = kept.2;
+        apart = kept.3;
+      }
       )
 
   -- and changes the ledger's size alone
@@ -217,28 +217,28 @@ module _ {E : Type 0} (r : RingBuffer E) (fits : r.generation < 2 ^ 64) where
       let all : 0 < size = omega (arith, r.small) in
       let P : ℕ → Type 0 = λ l. Facts (r.available - n) l size r.slots ((r.generation + 1) % 2 ^ 64) meta in
       subst P (sym e) (
-        record {
-          small = r.small;
-          room = r.room;
-          few = r.few;
-          within = mod-lt (last + n) all;
-          spare = omega (arith, r.spare);
-          ahead = stored-ahead meta.readers last size r.generation r.available n table some enough;
-          places = r.places;
-          bounded = r.bounded;
-          lags = stored-lags meta.readers last size r.generation r.available n table some enough;
-          level = stored-level meta.readers last size r.generation r.available n table some enough;
-          whole = r.whole;
-          stack = r.stack;
-          apart = r.apart;
-        }
+      record {
+        small = r.small;
+        room = r.room;
+        few = r.few;
+        within = mod-lt (last + n) all;
+        spare = omega (arith, r.spare);
+        ahead = stored-ahead meta.readers last size r.generation r.available n table some enough;
+        places = r.places;
+        bounded = r.bounded;
+        lags = stored-lags meta.readers last size r.generation r.available n table some enough;
+        level = stored-level meta.readers last size r.generation r.available n table some enough;
+        whole = r.whole;
+        stack = r.stack;
+        apart = r.apart;
+      }
       )
 
   -- and joins the events to every unread list
   pub stored-ledger : (old new : List E) (newest : ℕ) (xs : List E)
       → new ≡ stored old size last xs → newest ≡ last_after size last (length xs) → 1 ≤ length xs → length xs ≤ r.available → size ≤ length old
       → ledger_with r.instance r.slots new newest size ((r.generation + 1) % 2 ^ 64) meta ≡ with_joined (ledger_of r old) xs
-  stored-ledger old new newest xs s e some enough room =
+  stored-ledger old new at xs s e some enough room =
       ap (λ l. ledger_with r.instance r.slots new l size ((r.generation + 1) % 2 ^ 64) meta) e
       ∙ ap (λ ys. ledger_with r.instance r.slots ys (last_after size last (length xs)) size ((r.generation + 1) % 2 ^ 64) meta) s
       ∙ ap (figures r.instance r.slots size meta.used (stack_of meta.free meta.freed)) (stored-readers old meta.readers last size r.generation r.available table room xs some enough)

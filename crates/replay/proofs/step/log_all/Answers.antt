@@ -1,5 +1,5 @@
 use Rattle.std.proofs.Common.{◌+◌, ◌<◌, length, rules}
-use Rattle.replay.proofs.Copying.{copied_none, copied_room, copied_more, copied_all}
+use Rattle.replay.proofs.Copying.{copied_room, copied_more, copied_all}
 use Rattle.replay.proofs.step.log_all.Goals as goal
 
 pub overflow_add-place : goal.overflow_add-place

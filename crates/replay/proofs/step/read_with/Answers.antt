@@ -1,4 +1,4 @@
-use Rattle.std.proofs.Common.{◌≤◌, length, arith, rules}
+use Rattle.std.proofs.Common.{◌≤◌, length, arith}
 use Rattle.storage.specs.Views.{unread}
 use Rattle.replay.proofs.Reading.{handed-few, hands-logged}
 use Rattle.replay.proofs.step.read_with.Goals as goal

@@ -1,4 +1,4 @@
-use Rattle.std.proofs.Common.{◌≡◌, ℕ, ◌+◌, ◌*◌, ◌<◌, ◌≤◌, sym, ap, ◌∙◌, mul_comm, arith}
+use Rattle.std.proofs.Common.{◌+◌, ◌<◌, ◌≤◌, sym, ap, ◌∙◌, mul_comm, arith}
 use Rattle.ledger.specs.Ledger.{size_for}
 use Rattle.ledger.proofs.Sizes.{size_laws, size-doubles}
 use Rattle.storage.proofs.writing.grown_size.Goals as goal

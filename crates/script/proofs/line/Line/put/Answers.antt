@@ -1,7 +1,6 @@
 use Rattle.std.proofs.Common.{◌-◌, ◌≤◌, length, sym, ap, ◌∙◌, arith}
 use Rattle.std.proofs.lemmas.Bool.{leb-true}
 use Rattle.script.specs.Lines.{answering, rendered, shown, fields}
-use Rattle.script.specs.Marks.{letters}
 use Rattle.script.proofs.Fields.{length-letters, length-line, put_line}
 use Rattle.script.proofs.line.Line.put.Goals as goal
 

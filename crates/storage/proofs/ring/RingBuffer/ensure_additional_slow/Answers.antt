@@ -1,4 +1,4 @@
-use Rattle.std.proofs.Common.{◌≡◌, ℕ, ◌+◌, ◌-◌, ◌<◌, ◌≤◌, Bool, true, false, sym, refl, ap, ◌∙◌, subst, arith}
+use Rattle.std.proofs.Common.{◌≡◌, ℕ, ◌+◌, ◌-◌, ◌<◌, Bool, true, false, refl, subst, arith}
 use Rattle.ledger.specs.Ledger.{size_for}
 use Rattle.ledger.proofs.Sizes.{size_laws}
 use Rattle.storage.proofs.Rooms.{too_long, too_large, as_it_is, nobody, nearest_ahead, nearest_least, nobody_available, somebody_available, with_left, grown-room, twice_at_least}

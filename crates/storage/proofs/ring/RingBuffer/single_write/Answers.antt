@@ -1,4 +1,4 @@
-use Rattle.std.proofs.Common.{◌≡◌, List, [], ◌∷◌, length, ap, ◌∙◌, subst}
+use Rattle.std.proofs.Common.{List, length, ap, ◌∙◌, subst}
 use Rattle.ledger.specs.Ledger.{outcome, write}
 use Rattle.storage.specs.Ledgers.{ledger_of}
 use Rattle.storage.specs.Writes.{Stores}

@@ -1,4 +1,4 @@
-use Rattle.std.proofs.Common.{◌≡◌, ◌^◌, ◌<◌, ◌≤◌, length, sym, refl, ap, ◌∙◌, arith}
+use Rattle.std.proofs.Common.{◌^◌, ◌<◌, ◌≤◌, length, sym, refl, ap, ◌∙◌, arith}
 use Rattle.storage.specs.Slots.{last_after}
 use Rattle.storage.proofs.Stores.{stored-facts, stored-ledger}
 use Rattle.storage.proofs.ring.RingBuffer.store.Goals as goal
