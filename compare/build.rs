@@ -91,11 +91,11 @@ fn link_port() {
         println!("cargo::warning=voice 1 is the port, {}", library.display());
     } else if named.is_some() {
         give_up(&format!(
-            "RUNNER_LIB is set, and there is no {}; `rt staticlib runner` makes it",
+            "RUNNER_LIB is set, and there is no {}; `bin/runner-library` makes it",
             library.display()
         ));
     } else {
-        println!("cargo::warning=there is no {}; `rt staticlib runner` makes it", library.display());
+        println!("cargo::warning=there is no {}; `bin/runner-library` makes it", library.display());
         println!("cargo::warning=A STAND-IN TAKES THE PORT'S PLACE: NOTHING IS COMPARED WITH THE PORT");
     }
 }

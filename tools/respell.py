@@ -126,6 +126,7 @@ fault-of fault_of
 first-size first_size
 fits-as-is fits-as_is
 freed-left freed_left
+freedAt freed_at
 from-double from_double
 from-doubled from_doubled
 from-shut from_shut

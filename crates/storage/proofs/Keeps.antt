@@ -5,7 +5,7 @@ use Rattle.std.proofs.lemmas.Bool.{both_ways, cases_eq, cond_both, ltb-true, ltb
 use Rattle.storage.specs.declared.reader.Reader.{Reader}
 use Rattle.storage.specs.declared.reader.ReaderMeta.{ReaderMeta}
 use Rattle.storage.specs.Registry.{blank, Live, shifted}
-use Rattle.storage.specs.Meta.{most, fresh, closed, lives, Places, no_readers, freedAt, Alloc, removed, advanced, shifted_all, Whole, Stack, Apart, Sound}
+use Rattle.storage.specs.Meta.{most, fresh, closed, lives, Places, no_readers, freed_at, Alloc, removed, advanced, shifted_all, Whole, Stack, Apart, Sound}
 use Rattle.storage.proofs.Shifts.{shifted-live, shifted-place}
 
 not_open : (b : Bool) → (b ≡ true → ⊥) → b ≡ false
@@ -84,17 +84,17 @@ room-to_free g n lv w =
 
 -- what stands on the stack after a push
 pushed : (g : ReaderMeta) (n k : ℕ) → g.freed < length g.free → k < g.freed + 1
-    → ((k < g.freed) × (freedAt (removed g n) k ≡ freedAt g k)) ⊎ ((k ≡ g.freed) × (freedAt (removed g n) k ≡ n))
+    → ((k < g.freed) × (freed_at (removed g n) k ≡ freed_at g k)) ⊎ ((k ≡ g.freed) × (freed_at (removed g n) k ≡ n))
 pushed g n k room lt =
     ⊎_elim (λ (same : k ≡ g.freed). inr (same, rw same (get_or-set_same g.free g.freed n 0 room)))
     (λ (ne : k ≡ g.freed → ⊥). inl (omega arith, get_or-set_other g.free g.freed k n 0 ne)) (cases_eq k g.freed)
 
 -- what holds of n and of each freed number holds of each after n is freed
-each_freed : (P : ℕ → Type 0) (g : ReaderMeta) (n : ℕ) → g.freed < length g.free → P n → ((k : ℕ) → k < g.freed → P (freedAt g k))
-    → (k : ℕ) → k < g.freed + 1 → P (freedAt (removed g n) k)
+each_freed : (P : ℕ → Type 0) (g : ReaderMeta) (n : ℕ) → g.freed < length g.free → P n → ((k : ℕ) → k < g.freed → P (freed_at g k))
+    → (k : ℕ) → k < g.freed + 1 → P (freed_at (removed g n) k)
 each_freed P g n room here all k lt =
-    ⊎_elim (λ (p : (k < g.freed) × (freedAt (removed g n) k ≡ freedAt g k)). subst P (sym p.1) (all k p.0))
-    (λ (p : (k ≡ g.freed) × (freedAt (removed g n) k ≡ n)). subst P (sym p.1) here) (pushed g n k room lt)
+    ⊎_elim (λ (p : (k < g.freed) × (freed_at (removed g n) k ≡ freed_at g k)). subst P (sym p.1) (all k p.0))
+    (λ (p : (k ≡ g.freed) × (freed_at (removed g n) k ≡ n)). subst P (sym p.1) here) (pushed g n k room lt)
 
 removed-whole : (g : ReaderMeta) (n : ℕ) → Live g.readers n → Whole g → Whole (removed g n)
 removed-whole g n lv w =
@@ -109,7 +109,7 @@ removed-stack g n lv w s =
     let here : (get_or (set g.readers n gone) n blank).live ≡ false = ap (λ (r : Reader). r.live) (get_or-set_same g.readers n gone blank (live-within g.readers n lv)) in (
       each_freed (λ x. x < g.used) g n room (w.2 n lv) s.0,
       each_freed (λ x. (get_or (set g.readers n gone) x blank).live ≡ false) g n room here
-          (λ k h. closed-set g.readers n (freedAt g k) gone (apart_from g.readers n (freedAt g k) lv (s.1 k h)) (s.1 k h)),
+          (λ k h. closed-set g.readers n (freed_at g k) gone (apart_from g.readers n (freed_at g k) lv (s.1 k h)) (s.1 k h)),
       length-set g.free g.freed n ∙ s.2,
     )
 
@@ -118,9 +118,9 @@ removed-apart g n lv w s a j k jk h e =
     let room : g.freed < length g.free = omega (arith, room-to_free g n lv w, s.2) in
     let jl : j < g.freed = omega arith in
     let jo : j ≢ g.freed = omega arith in
-    let ej : freedAt (removed g n) j ≡ freedAt g j = get_or-set_other g.free g.freed j n 0 jo in
-    ⊎_elim (λ (p : (k < g.freed) × (freedAt (removed g n) k ≡ freedAt g k)). a j k jk p.0 (sym ej ∙ e ∙ p.1))
-    (λ (p : (k ≡ g.freed) × (freedAt (removed g n) k ≡ n)). apart_from g.readers n (freedAt g j) lv (s.1 j jl) (sym ej ∙ e ∙ p.1)) (pushed g n k room h)
+    let ej : freed_at (removed g n) j ≡ freed_at g j = get_or-set_other g.free g.freed j n 0 jo in
+    ⊎_elim (λ (p : (k < g.freed) × (freed_at (removed g n) k ≡ freed_at g k)). a j k jk p.0 (sym ej ∙ e ∙ p.1))
+    (λ (p : (k ≡ g.freed) × (freed_at (removed g n) k ≡ n)). apart_from g.readers n (freed_at g j) lv (s.1 j jl) (sym ej ∙ e ∙ p.1)) (pushed g n k room h)
 
 pub removed-sound : (g : ReaderMeta) (n size : ℕ) → Live g.readers n → Sound g size → Sound (removed g n) size
 removed-sound g n size lv s = (
@@ -136,7 +136,7 @@ abbrev after : Bool → ReaderMeta → ℕ → Reader → ReaderMeta
 after b g n e = record { readers = set g.readers n e; free = g.free; freed = g.freed - 1; used = cond b g.used (g.used + 1) }
 
 -- under a freed number, and under an unused one
-opening : (b : Bool) (g : ReaderMeta) (n : ℕ) (e : Reader) → e.live ≡ true → ltb 0 g.freed ≡ b → n ≡ cond b (freedAt g (g.freed - 1)) g.used → n < most
+opening : (b : Bool) (g : ReaderMeta) (n : ℕ) (e : Reader) → e.live ≡ true → ltb 0 g.freed ≡ b → n ≡ cond b (freed_at g (g.freed - 1)) g.used → n < most
     → Whole g → Stack g → Apart g → Whole (after b g n e) × Stack (after b g n e) × Apart (after b g n e)
 opening true g n e lv t is lt w s a =
     let some : 0 < g.freed = ltb-true 0 g.freed t in
@@ -147,7 +147,7 @@ opening true g n e lv t is lt w s a =
       (w.0, omega (arith, count, w.1), below_set g.readers n g.used g.used e low (omega arith) w.2, length-set g.readers n e ∙ w.3),
       (
         (λ k h. s.0 k (omega arith)),
-        (λ k h. closed-set g.readers n (freedAt g k) e (λ q. a k (g.freed - 1) (omega arith) top (q ∙ is)) (s.1 k (omega arith))),
+        (λ k h. closed-set g.readers n (freed_at g k) e (λ q. a k (g.freed - 1) (omega arith) top (q ∙ is)) (s.1 k (omega arith))),
         s.2,
       ),
       (λ j k jk h. a j k jk (omega arith)),
@@ -176,7 +176,7 @@ advanced-sound g n place generation size below lv s =
     let count = lives-from g.readers n e true true (live-within g.readers n lv) lv refl in (
       places_set g.readers size n e (λ _. below) s.0,
       (w.0, omega (arith, count, w.1), below_set g.readers n g.used g.used e (w.2 n lv) (omega arith) w.2, length-set g.readers n e ∙ w.3),
-      (s.2.0, (λ k h. closed-set g.readers n (freedAt g k) e (apart_from g.readers n (freedAt g k) lv (s.2.1 k h)) (s.2.1 k h)), s.2.2),
+      (s.2.0, (λ k h. closed-set g.readers n (freed_at g k) e (apart_from g.readers n (freed_at g k) lv (s.2.1 k h)) (s.2.1 k h)), s.2.2),
       s.3,
     )
 
@@ -210,7 +210,7 @@ shifted-sound g last generation by size s =
     let same = live-shifted last generation by g.readers in (
       shifted-places g.readers last generation by size s.0,
       (w.0, omega (arith, lives-shifted last generation by g.readers, w.1), (λ k lv. w.2 k (sym (same k) ∙ lv)), length-map g.readers (shifted last generation by) ∙ w.3),
-      (s.2.0, (λ k h. same (freedAt g k) ∙ s.2.1 k h), s.2.2),
+      (s.2.0, (λ k h. same (freed_at g k) ∙ s.2.1 k h), s.2.2),
       s.3,
     )
 
@@ -227,7 +227,7 @@ pub closed-counts : (rs : List Reader) → ((k : ℕ) → (get_or rs k blank).li
 closed-counts [] h = refl
 closed-counts (r ∷ rs) h = ap (λ (b : Bool). cond b 1 0 + lives rs) (h 0) ∙ omega (arith, closed-counts rs (λ k. h (suc k)))
 
-not_full : (b : Bool) (g : ReaderMeta) (n : ℕ) → ltb 0 g.freed ≡ b → Whole g → n ≡ cond b (freedAt g (g.freed - 1)) g.used → n < most → lives g.readers ≢ most
+not_full : (b : Bool) (g : ReaderMeta) (n : ℕ) → ltb 0 g.freed ≡ b → Whole g → n ≡ cond b (freed_at g (g.freed - 1)) g.used → n < most → lives g.readers ≢ most
 not_full true g n t w is lt full = omega (arith, ltb-true 0 g.freed t, w.0, w.1)
 not_full false g n t w is lt full = omega (arith, w.1, is)
 

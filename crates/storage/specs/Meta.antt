@@ -47,12 +47,12 @@ abbrev pub with_readers : ReaderMeta → List Reader → ReaderMeta
 with_readers g rs = record { readers = rs; free = g.free; freed = g.freed; used = g.used }
 
 -- the freed number at place k of the stack, counted from the bottom
-abbrev pub freedAt : ReaderMeta → ℕ → ℕ
-freedAt g k = slice_index g.free k
+abbrev pub freed_at : ReaderMeta → ℕ → ℕ
+freed_at g k = slice_index g.free k
 
 -- the number that the next registration takes: the latest freed one, else the next unused one
 abbrev pub number : ReaderMeta → ℕ
-number g = cond (nat_lt 0 g.freed) (freedAt g (g.freed - 1)) g.used
+number g = cond (nat_lt 0 g.freed) (freed_at g (g.freed - 1)) g.used
 
 -- the table after a registration under the number n
 abbrev pub opened : ReaderMeta → ℕ → ℕ → ℕ → ReaderMeta
@@ -96,13 +96,13 @@ Whole g =
 -- what is on the stack was used and is not open
 abbrev pub Stack : ReaderMeta → Type 0
 Stack g =
-    ((k : ℕ) → k < g.freed → freedAt g k < g.used)
-    × ((k : ℕ) → k < g.freed → (get_or g.readers (freedAt g k) blank).live ≡ false)
+    ((k : ℕ) → k < g.freed → freed_at g k < g.used)
+    × ((k : ℕ) → k < g.freed → (get_or g.readers (freed_at g k) blank).live ≡ false)
     × (length g.free ≡ most)
 
 -- and stands there once
 abbrev pub Apart : ReaderMeta → Type 0
-Apart g = (j k : ℕ) → j < k → k < g.freed → freedAt g j ≢ freedAt g k
+Apart g = (j k : ℕ) → j < k → k < g.freed → freed_at g j ≢ freed_at g k
 
 -- all that the table keeps, in a ring of the given size
 abbrev pub Sound : ReaderMeta → ℕ → Type 0
