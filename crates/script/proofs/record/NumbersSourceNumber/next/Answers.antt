@@ -6,5 +6,4 @@ pub returns : goal.returns
 returns c =
     let front = c.in-Some.ensures.cases in
     let first = numbers-next c.args.self.now.bytes.now c.in-Some.number.now front.enough front.same in
-    let number = c.from_be_bytes.ensures in
     record { gives = cc; draws = refl }
