@@ -38,12 +38,8 @@ impl<E, S: Source<E>> Source<E> for Capped<S> {
         if self.left == 0 {
             return None;
         }
-        match self.below.next() {
-            Some(event) => {
-                self.left -= 1;
-                Some(event)
-            }
-            None => None,
-        }
+        let event = self.below.next()?;
+        self.left -= 1;
+        Some(event)
     }
 }
