@@ -20,8 +20,7 @@ impl<S> Capped<S> {
     pub fn into_inner(self) -> S
         ensures { result ≡ self.below }
     {
-        let Capped { below, left: _ } = self;
-        below
+        self.below
     }
 }
 
