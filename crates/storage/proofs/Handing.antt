@@ -94,16 +94,16 @@ module _ {E : Type 0} (r : RingBuffer E) (slots : List E) where
   read-hands n g xs same lv is runs =
       let reader : Reader = get_or r.meta.readers n blank in
       let wide : r.last.size ≤ length slots = omega (arith, r.room) in
-      let list = runs ∙ runs_unread slots r.last.index r.last.size r.generation reader (unread_place r n) wide r.within (r.places n lv) (r.level n lv) refl in
+      let list = runs ∙ runs_unread slots r.last.index r.last.size r.generation reader (unread_place r n) wide r.last.within (r.places n lv) (r.level n lv) refl in
       ap (λ ys. (ledger.handed ys, ledger_with r.instance r.slots slots r.last.index r.last.size r.generation g)) list
       ∙ ap (λ (m : ReaderMeta). (ledger.handed (waiting_in slots r.last.index r.last.size r.generation reader), ledger_with r.instance r.slots slots r.last.index r.last.size r.generation m)) is
-      ∙ read-open r.instance r.slots slots r.last.index r.last.size r.generation r.within r.meta (length slots) n same lv
+      ∙ read-open r.instance r.slots slots r.last.index r.last.size r.generation r.last.within r.meta (length slots) n same lv
 
   -- a read of a number that is not open
   pub read-refused : (n : ℕ) (fault : Fault) → length slots ≡ r.slots → fault ≡ NotOpen → (get_or r.meta.readers n blank).live ≡ false
       → (ledger.refused (number_of fault), ledger_of r slots) ≡ outcome (ledger_of r slots) (ledger.read (length slots) r.instance n)
-  read-refused n fault same is dead = rw is (read-shut r.instance r.slots slots r.last.index r.last.size r.generation r.within r.meta (length slots) n same dead)
+  read-refused n fault same is dead = rw is (read-shut r.instance r.slots slots r.last.index r.last.size r.generation r.last.within r.meta (length slots) n same dead)
 
 -- the same view, of the same figures
-pub same_runs : {E : Type 0} (slots : List E) (from at count many size : ℕ) (v : View E) → from ≡ at → count ≡ many → Runs slots from count size v → Runs slots at many size v
-same_runs slots from at count many size v e f h = rw (← e, ← f) h
+pub same_runs : {E : Type 0} (slots : List E) (from at count many size round : ℕ) (v : View E) → from ≡ at → count ≡ many → size ≡ round → Runs slots from count size v → Runs slots at many round v
+same_runs slots from at count many size round v e f g h = rw (← e, ← f, ← g) h

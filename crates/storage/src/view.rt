@@ -1,7 +1,8 @@
-ghost use Rattle.std.specs.Prelude.{◌≡◌, ◌-◌, ◌<◌, ◌≤◌, min, [], ◌++◌, length};
+ghost use Rattle.std.specs.Prelude.{◌≡◌, ◌-◌, ◌≤◌, min, [], ◌++◌, length};
 ghost use Rattle.storage.specs.Slots.{part};
 ghost use Rattle.storage.specs.Views.{unread};
 
+use crate::circular::CircularIndex;
 use source::Source;
 
 // What a read hands out: the unread events, oldest first, as two runs of the slots, and how many are still to draw.
@@ -14,19 +15,18 @@ pub struct View<'a, E> {
 
 impl<'a, E> View<'a, E> {
     // `count` events from the place `from`, as far as the ring's end and then from place 0.
-    pub(crate) fn new(slots: &'a [E], from: usize, count: usize, size: usize) -> Self
-        requires inside { from < size }
-        requires fits { size ≤ length slots.now }
-        requires most { count ≤ size }
-        ensures first { result.first.now ≡ part slots.now from (min count (size - from)) }
-        ensures second { result.second.now ≡ part slots.now 0 (count - (size - from)) }
+    pub(crate) fn new(slots: &'a [E], from: CircularIndex, count: usize) -> Self
+        requires fits { from.size ≤ length slots.now }
+        requires most { count ≤ from.size }
+        ensures first { result.first.now ≡ part slots.now from.index (min count (from.size - from.index)) }
+        ensures second { result.second.now ≡ part slots.now 0 (count - (from.size - from.index)) }
         ensures left { result.left ≡ count }
-        ensures whole { count ≤ size - from → result.second.now ≡ [] }
-        ensures means { unread result ≡ part slots.now from (min count (size - from)) ++ part slots.now 0 (count - (size - from)) }
+        ensures whole { count ≤ from.size - from.index → result.second.now ≡ [] }
+        ensures means { unread result ≡ part slots.now from.index (min count (from.size - from.index)) ++ part slots.now 0 (count - (from.size - from.index)) }
     {
-        let ahead = count.min(size - from);
+        let ahead = count.min(from.size - from.index);
         View {
-            first: &slots[from..from + ahead],
+            first: &slots[from.index..from.index + ahead],
             second: &slots[..count - ahead],
             left: count,
         }

@@ -51,9 +51,9 @@ impl<E: Copy> RingBuffer<E> {
     {
         let last = self.last;
         let generation = self.generation;
-        grow(slots, last.step(), last.size, by);
+        grow(slots, last.step(), by);
         self.meta.shift(last.index, generation, by);
-        self.last.size = last.size + by;
+        self.last = last.resized(last.size + by);
         self.available = left + by;
     }
 
@@ -72,7 +72,7 @@ impl<E: Copy> RingBuffer<E> {
         ensures ledger { ledger_of self.new slots.new ≡ with_joined (ledger_of self.old slots.old) (S.Source.means source.old) }
     {
         let generation = self.generation;
-        self.last.index = put_all(slots, self.last.index, self.last.size, source);
+        self.last = put_all(slots, self.last, source);
         self.available -= num;
         self.generation = generation.wrapping_add(1);
     }

@@ -14,7 +14,7 @@ returns-in-Err g c =
     record {
       ledger = λ slots.
           ap (λ (f : Fault). (refused (number_of f), ledger_of r slots)) c.in-Err.ensures.0
-          ∙ close-shut r.instance r.slots slots r.last.index r.last.size r.generation r.within r.meta c.args.number c.in-Err.ensures.1;
+          ∙ close-shut r.instance r.slots slots r.last.index r.last.size r.generation r.last.within r.meta c.args.number c.in-Err.ensures.1;
       rest = search rules;
       refused = refl;
     }
@@ -28,7 +28,7 @@ returns g c =
     record {
       ledger = λ slots.
           ap (λ (m : ReaderMeta). (closed, ledger_with r.instance r.slots slots r.last.index r.last.size r.generation m)) c.remove.ensures
-          ∙ close_open r.instance r.slots slots r.last.index r.last.size r.generation r.within r.meta c.args.number c.in_default.ensures r.whole r.stack;
+          ∙ close_open r.instance r.slots slots r.last.index r.last.size r.generation r.last.within r.meta c.args.number c.in_default.ensures r.whole r.stack;
       rest = search rules;
       refused = tt;
     }

@@ -1,5 +1,4 @@
-use Rattle.std.proofs.Common.{◌≡◌, ◌+◌, ◌%◌, refl, ap, ◌∙◌, arith, rules}
-use Rattle.storage.specs.declared.circular.CircularIndex.{CircularIndex}
+use Rattle.std.proofs.Common.{◌≡◌, refl, ◌∙◌, arith, rules}
 use Rattle.storage.specs.Calls.{unread_place, unread_count}
 use Rattle.storage.specs.Views.{unread}
 use Rattle.storage.proofs.Each.{with_advanced}
@@ -24,12 +23,13 @@ returns g c =
     let slots = c.args.slots.now in
     let n = c.args.number in
     let view = c.new-2.ensures in
-    let at : c.step-from.result ≡ unread_place r n = c.step-from.ensures.value ∙ ap (λ (i : CircularIndex). (i.index + 1) % i.size) c.new.ensures in
+    let at : c.step-from.result.index ≡ unread_place r n = simp (c.new.ensures.index, c.new.ensures.size) at c.step-from.ensures.index in
+    let round : c.step-from.result.size ≡ r.last.size = c.step-from.ensures.size ∙ c.new.ensures.size in
     let many : c.unread_from-count.result ≡ unread_count r n = c.unread_from-count.ensures in
-    let list = view.means ∙ ap (λ q. both_runs r slots q c.unread_from-count.result) at ∙ ap (λ k. both_runs r slots (unread_place r n) k) many in
+    let list : unread c.new-2.result ≡ both_runs r slots (unread_place r n) (unread_count r n) = simp (at, many, round) at view.means in
     record {
       ledger = read-hands r slots n c.advance.new.self (unread c.new-2.result) (omega arith) c.in_default.ensures c.advance.ensures list;
       rest = search rules;
       refused = tt;
-      runs = same_runs slots _ _ _ _ r.last.size c.new-2.result at many (record { first = view.first; second = view.second; whole = view.whole; left = view.left });
+      runs = same_runs slots _ _ _ _ _ _ c.new-2.result at many round (record { first = view.first; second = view.second; whole = view.whole; left = view.left });
     }

@@ -5,12 +5,12 @@ use Rattle.storage.proofs.view.View.new.Goals as goal
 pub returns : goal.returns
 returns g c =
     let slots = c.args.slots.now in
-    let from = c.args.from in
+    let from = c.args.from.index in
     let count = c.args.count in
-    let rest = c.args.size - from in
+    let rest = c.args.from.size - from in
     let one : from + c.min-ahead.result - from ≡ min count rest = omega arith in
     let two : count - c.min-ahead.result ≡ count - rest = omega arith in
-    let whole = whole-runs slots from count c.args.size c.requires.inside c.requires.fits c.requires.most in
+    let whole = whole-runs slots from count c.args.from.size c.args.from.within c.requires.fits c.requires.most in
     record {
       first = ap (λ n. take n (drop from slots)) one;
       second = ap (λ n. take n slots) two;
