@@ -34,6 +34,7 @@ pub struct RingBuffer<E> {
     ghost apart: { Apart meta },
 }
 
+// By hand: a derive is refused on a generic struct with a ghost field, and would ask for `E: Clone`.
 impl<E> Clone for RingBuffer<E> {
     ghost is_clone = { λ ring copy. copy ≡ ring };
 
