@@ -34,6 +34,7 @@ pub(crate) fn put_all<E: Copy, S: Source<E>>(
     ensures size { result.size ≡ last.size }
 {
     let mut at = last;
+    // `while let`: a source is no iterator, since what it means is part of its contract.
     while let Some(event) = source.next() {
         at = at.step();
         put(slots, at.index, event);
