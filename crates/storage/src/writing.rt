@@ -29,6 +29,7 @@ impl<E: Copy> RingBuffer<E> {
             return None;
         }
         let mut size = self.last.size;
+        // The rule as it reads: `next_power_of_two` of a rounded quotient would hide it.
         while size < need {
             size *= 2;
         }
