@@ -81,7 +81,6 @@ module _ (available last size slots generation : ℕ) (g : ReaderMeta) where
         small : 2 ≤ size;
         room : size ≤ slots;
         few : slots ≤ 1048576;
-        within : last < size;
         spare : available ≤ size;
         ahead : Ahead g.readers last size generation available;
         places : Places g.readers size;
@@ -93,13 +92,12 @@ module _ (available last size slots generation : ℕ) (g : ReaderMeta) where
         apart : Apart g;
       }
 
-  pub facts : 2 ≤ size → size ≤ slots → slots ≤ 1048576 → last < size → available ≤ size → Kept last size generation available g → Facts
-  facts small room few within spare k =
+  pub facts : 2 ≤ size → size ≤ slots → slots ≤ 1048576 → available ≤ size → Kept last size generation available g → Facts
+  facts small room few spare k =
       record {
         small = small;
         room = room;
         few = few;
-        within = within;
         spare = spare;
         ahead = k.ahead;
         places = k.places;
@@ -134,21 +132,21 @@ module _ {E : Type 0} (r : RingBuffer E) where
   with_set g n e same p sound =
       let fine = each_set (Fine last_of size_of r.generation r.available) r.meta.readers n e p fine_of in
       let all : Each (Fine last_of size_of r.generation r.available) g.readers = subst (λ (rs : List Reader). Each (Fine last_of size_of r.generation r.available) rs) (sym same) fine in
-      facts r.available last_of size_of r.slots r.generation g r.small r.room r.few r.within r.spare (kept last_of size_of r.generation r.available g all sound)
+      facts r.available last_of size_of r.slots r.generation g r.small r.room r.few r.spare (kept last_of size_of r.generation r.available g all sound)
 
   -- a registration
   pub with_alloc : (g : ReaderMeta) (n : ℕ) → r.generation < 2 ^ 64 → Alloc r.meta g last_of r.generation (Some n) → With g
   with_alloc g n fits al =
       with_set g n (fresh last_of r.generation) (ap (λ (x : ReaderMeta). x.readers) al.2)
-      (λ _. fresh-fine last_of size_of r.generation r.available r.within r.spare fits)
-      (alloc_sound r.meta g last_of r.generation size_of (Some n) al r.within sound-of)
+      (λ _. fresh-fine last_of size_of r.generation r.available r.last.within r.spare fits)
+      (alloc_sound r.meta g last_of r.generation size_of (Some n) al r.last.within sound-of)
 
   -- a read
   pub with_advanced : (g : ReaderMeta) (n : ℕ) → r.generation < 2 ^ 64 → Live r.meta.readers n → g ≡ advanced r.meta n last_of r.generation → With g
   with_advanced g n fits lv same =
       with_set g n (fresh last_of r.generation) (ap (λ (x : ReaderMeta). x.readers) same)
-      (λ _. fresh-fine last_of size_of r.generation r.available r.within r.spare fits)
-      (subst (λ (x : ReaderMeta). Sound x size_of) (sym same) (advanced-sound r.meta n last_of r.generation size_of r.within lv sound-of))
+      (λ _. fresh-fine last_of size_of r.generation r.available r.last.within r.spare fits)
+      (subst (λ (x : ReaderMeta). Sound x size_of) (sym same) (advanced-sound r.meta n last_of r.generation size_of r.last.within lv sound-of))
 
   -- a close
   pub with_removed : (g : ReaderMeta) (n : ℕ) → Live r.meta.readers n → g ≡ removed r.meta n → With g

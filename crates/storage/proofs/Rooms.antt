@@ -42,7 +42,7 @@ module _ {E : Type 0} (r : RingBuffer E) (slots : List E) (own : length slots �
   room = omega (arith, r.room, own)
 
   unread-length : (k : ℕ) → length (waiting_in slots r.last.index r.last.size r.generation (get_or rs k blank)) ≡ r.last.size - far (get_or rs k blank)
-  unread-length k = length-waiting_in slots r.last.size room r.last.index r.generation (get_or rs k blank) r.within
+  unread-length k = length-waiting_in slots r.last.size room r.last.index r.generation (get_or rs k blank) r.last.within
 
   -- so many events fit where nobody is nearer
   pub fits-as_is : (num : ℕ) → ((k : ℕ) → Live rs k → num ≤ far (get_or rs k blank)) → num ≤ r.last.size → (no_room L num ≡ None) × (size_then L num ≡ r.last.size)
@@ -123,7 +123,7 @@ module _ {E : Type 0} (r : RingBuffer E) (slots : List E) (own : length slots �
   nearest_ahead i left near e k lv = let w = live-within rs k lv in omega (arith, near.2 k (omega (arith, w, r.whole.3)) lv, e)
 
   pub nearest_least : (i left : ℕ) → Nearest far rs most (Some i) → left ≡ far (get_or rs i blank) → left ≤ r.last.size
-  nearest_least i left near e = omega (arith, e, distance-le r.last.index r.last.size r.generation (get_or rs i blank) r.within (r.places i near.1))
+  nearest_least i left near e = omega (arith, e, distance-le r.last.index r.last.size r.generation (get_or rs i blank) r.last.within (r.places i near.1))
 
   pub somebody_available : (num i left : ℕ) → Nearest far rs most (Some i) → left ≡ far (get_or rs i blank) → r.available < num → num ≤ left → left ≡ available_then r L num
   somebody_available num i left near e short enough =
@@ -138,7 +138,6 @@ module _ {E : Type 0} (r : RingBuffer E) (slots : List E) (own : length slots �
         small = r.small;
         room = r.room;
         few = r.few;
-        within = r.within;
         spare = least;
         ahead = ahead;
         places = r.places;

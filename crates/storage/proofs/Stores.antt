@@ -1,8 +1,9 @@
 -- Storing, from the slots to the ledger's readers.
-use Rattle.std.proofs.Common.{◌≡◌, ℕ, ◌+◌, ◌-◌, ◌%◌, ◌^◌, ◌<◌, ◌≤◌, Bool, true, false, ◌≢◌, List, map, length, get_or, drop, sym, refl, ap, ◌∙◌, subst, mod-lt, arith}
+use Rattle.std.proofs.Common.{◌≡◌, ℕ, ◌+◌, ◌-◌, ◌%◌, ◌^◌, ◌<◌, ◌≤◌, Bool, true, false, ◌≢◌, List, map, length, get_or, drop, sym, refl, ap, ◌∙◌, subst, arith}
 use Rattle.std.proofs.lemmas.List.{length-map}
 use Rattle.ledger.specs.Ledger as ledger
 use Rattle.ledger.specs.Ledger.{Ledger}
+use Rattle.storage.specs.declared.circular.CircularIndex.{CircularIndex}
 use Rattle.storage.specs.declared.reader.Reader.{Reader}
 use Rattle.storage.specs.Registry.{blank, Live, distance, shifted}
 use Rattle.storage.specs.Kept.{lag, Ahead, Bounded, Lags, Level}
@@ -171,24 +172,22 @@ module _ {E : Type 0} (r : RingBuffer E) (fits : r.generation < 2 ^ 64) where
 
   pub table : Table meta.readers last size r.generation r.available
   table =
-      record { below = r.within; few = omega (arith, r.room, r.few); fits = fits; spare = r.spare; ahead = r.ahead; places = r.places; bounded = r.bounded; lags = r.lags; level = r.level }
+      record { below = r.last.within; few = r.last.small; fits = fits; spare = r.spare; ahead = r.ahead; places = r.places; bounded = r.bounded; lags = r.lags; level = r.level }
 
   sound : Sound meta size
   sound = (r.places, r.whole, r.stack, r.apart)
 
   -- growth keeps what a ring keeps
-  pub grown-facts : (h : ReaderMeta) (g left : ℕ) → h ≡ shifted_all meta last r.generation g → size ≤ g → size + g ≤ r.slots → left ≤ size
-      → Ahead meta.readers last size r.generation left → Facts (left + g) last (size + g) r.slots r.generation h
-  grown-facts h g left e double room least ahead =
+  pub grown-facts : (h : ReaderMeta) (then : CircularIndex) (g left : ℕ) → h ≡ shifted_all meta last r.generation g → then.index ≡ last → then.size ≡ size + g
+      → size ≤ g → size + g ≤ r.slots → left ≤ size → Ahead meta.readers last size r.generation left → Facts (left + g) then.index then.size r.slots r.generation h
+  grown-facts h then g left e at is double room least ahead =
       let some : 1 ≤ g = omega (arith, r.small) in
       let kept = shifted-sound meta last r.generation g size sound in
-      let P : ReaderMeta → Type 0 = Facts (left + g) last (size + g) r.slots r.generation in
-      subst P (sym e) (
+      rw (e, at, is) (
       record {
         small = omega (arith, r.small);
         room = room;
         few = r.few;
-        within = omega (arith, r.within);
         spare = omega arith;
         ahead = grown-ahead meta.readers last size r.generation r.available g table some left ahead;
         places = kept.0;
@@ -202,26 +201,23 @@ module _ {E : Type 0} (r : RingBuffer E) (fits : r.generation < 2 ^ 64) where
       )
 
   -- and changes the ledger's size alone
-  pub grown-ledger : (old new : List E) (h : ReaderMeta) (g : ℕ)
-      → h ≡ shifted_all meta last r.generation g → new ≡ grown old ((last + 1) % size) size g → size ≤ g → size + g ≤ length old
-      → ledger_with r.instance r.slots new last (size + g) r.generation h ≡ with_size (ledger_of r old) (size + g)
-  grown-ledger old new h g e s double room =
-      ap (λ m. ledger_with r.instance r.slots new last (size + g) r.generation m) e
+  pub grown-ledger : (old new : List E) (h : ReaderMeta) (then : CircularIndex) (g : ℕ)
+      → h ≡ shifted_all meta last r.generation g → then.index ≡ last → then.size ≡ size + g → new ≡ grown old ((last + 1) % size) size g → size ≤ g → size + g ≤ length old
+      → ledger_with r.instance r.slots new then.index then.size r.generation h ≡ with_size (ledger_of r old) (size + g)
+  grown-ledger old new h then g e at is s double room =
+      rw (e, at, is) refl
       ∙ ap (λ xs. ledger_with r.instance r.slots xs last (size + g) r.generation (shifted_all meta last r.generation g)) s
       ∙ ap (figures r.instance r.slots (size + g) meta.used (stack_of meta.free meta.freed)) (grown-readers old meta.readers last size r.generation r.available g table double room)
 
   -- storing keeps what a ring keeps
-  pub stored-facts : (newest n : ℕ) → newest ≡ last_after size last n → 1 ≤ n → n ≤ r.available
-      → Facts (r.available - n) newest size r.slots ((r.generation + 1) % 2 ^ 64) meta
-  stored-facts newest n e some enough =
-      let all : 0 < size = omega (arith, r.small) in
-      let P : ℕ → Type 0 = λ l. Facts (r.available - n) l size r.slots ((r.generation + 1) % 2 ^ 64) meta in
-      subst P (sym e) (
+  pub stored-facts : (then : CircularIndex) (n : ℕ) → then.index ≡ last_after size last n → then.size ≡ size → 1 ≤ n → n ≤ r.available
+      → Facts (r.available - n) then.index then.size r.slots ((r.generation + 1) % 2 ^ 64) meta
+  stored-facts then n at is some enough =
+      rw (at, is) (
       record {
         small = r.small;
         room = r.room;
         few = r.few;
-        within = mod-lt (last + n) all;
         spare = omega (arith, r.spare);
         ahead = stored-ahead meta.readers last size r.generation r.available n table some enough;
         places = r.places;
@@ -235,10 +231,10 @@ module _ {E : Type 0} (r : RingBuffer E) (fits : r.generation < 2 ^ 64) where
       )
 
   -- and joins the events to every unread list
-  pub stored-ledger : (old new : List E) (newest : ℕ) (xs : List E)
-      → new ≡ stored old size last xs → newest ≡ last_after size last (length xs) → 1 ≤ length xs → length xs ≤ r.available → size ≤ length old
-      → ledger_with r.instance r.slots new newest size ((r.generation + 1) % 2 ^ 64) meta ≡ with_joined (ledger_of r old) xs
-  stored-ledger old new at xs s e some enough room =
-      ap (λ l. ledger_with r.instance r.slots new l size ((r.generation + 1) % 2 ^ 64) meta) e
+  pub stored-ledger : (old new : List E) (then : CircularIndex) (xs : List E)
+      → new ≡ stored old size last xs → then.index ≡ last_after size last (length xs) → then.size ≡ size → 1 ≤ length xs → length xs ≤ r.available → size ≤ length old
+      → ledger_with r.instance r.slots new then.index then.size ((r.generation + 1) % 2 ^ 64) meta ≡ with_joined (ledger_of r old) xs
+  stored-ledger old new then xs s at is some enough room =
+      rw (at, is) refl
       ∙ ap (λ ys. ledger_with r.instance r.slots ys (last_after size last (length xs)) size ((r.generation + 1) % 2 ^ 64) meta) s
       ∙ ap (figures r.instance r.slots size meta.used (stack_of meta.free meta.freed)) (stored-readers old meta.readers last size r.generation r.available table room xs some enough)

@@ -1,9 +1,13 @@
 -- What a call leaves of a ring beside what the ledger says. Assumes nothing.
-use Rattle.std.specs.Prelude.{◌≡◌, ℕ, ◌+◌, ◌-◌, ◌%◌, ◌≤◌, min, List, [], get_or, Ok, Err, Result, slice_index_or}
+use Rattle.std.specs.Prelude.{◌≡◌, ℕ, ◌+◌, ◌-◌, ◌%◌, ◌≤◌, min, List, [], length, Ok, Err, Result, OnErr, slice_index_or}
 use Rattle.storage.specs.declared.ring.RingBuffer.{RingBuffer}
 use Rattle.storage.specs.declared.view.View.{View}
 use Rattle.storage.specs.Registry.{blank, unread}
 use Rattle.storage.specs.Slots.{part}
+
+-- a refused call leaves a value as it was
+abbrev pub Unchanged : {A F X : Type 0} → Result A F → X → X → Type 0
+Unchanged result before after = OnErr result (after ≡ before)
 
 module _ {E : Type 0} where
   pub record SameButReaders (before after : RingBuffer E) : Type 0 where
@@ -13,14 +17,9 @@ module _ {E : Type 0} where
     pub generation : after.generation ≡ before.generation
     pub instance : after.instance ≡ before.instance
 
-  -- a refused call leaves the ring as it was
-  abbrev pub Unchanged : {A F : Type 0} → Result A F → RingBuffer E → RingBuffer E → Type 0
-  Unchanged (Ok x) before after = Unit {0}
-  Unchanged (Err f) before after = after ≡ before
-
   -- where the events begin that the reader has not read: at the place after its own
   abbrev pub unread_place : RingBuffer E → ℕ → ℕ
-  unread_place r n = ((get_or r.meta.readers n blank).place + 1) % r.last.size
+  unread_place r n = ((slice_index_or r.meta.readers n blank).place + 1) % r.last.size
 
   -- and how many they are
   abbrev pub unread_count : RingBuffer E → ℕ → ℕ
@@ -31,7 +30,7 @@ module _ {E : Type 0} where
     pub first : v.first.now ≡ part slots from (min count (size - from))
     pub second : v.second.now ≡ part slots 0 (count - (size - from))
     pub whole : count ≤ size - from → v.second.now ≡ []
-    pub left : v.left ≡ count
+    pub left : length v.first.now + length v.second.now ≡ count
 
   -- a read hands out exactly the unread events' runs
   abbrev pub ReadsRuns : {F : Type 0} → Result (View E) F → RingBuffer E → List E → ℕ → Type 0

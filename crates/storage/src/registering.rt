@@ -28,9 +28,7 @@ impl<E> RingBuffer<E> {
         ensures rest { SameButReaders self.old self.new }
         ensures refused { Unchanged result self.old self.new }
     {
-        if let Err(fault) = self.meta.check_open(number) {
-            return Err(fault);
-        }
+        self.meta.check_open(number)?;
         self.meta.remove(number);
         Ok(())
     }
