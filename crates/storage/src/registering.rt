@@ -28,8 +28,8 @@ impl<E> RingBuffer<E> {
         ensures rest { SameButReaders self.old self.new }
         ensures refused { Unchanged result self.old self.new }
     {
-        if let Err(fault) = self.meta.check_open(number) {
-            return Err(fault);
+        if self.meta.reader(number).is_none() {
+            return Err(Fault::NotOpen);
         }
         self.meta.remove(number);
         Ok(())

@@ -110,7 +110,7 @@ impl<E: Copy> RingBuffer<E> {
                 return Ok(());
             }
             Some(nearest) => {
-                let reader = self.meta.readers[nearest];
+                let reader = self.meta.readers[nearest].unwrap();
                 reader.distance_from(self.last, self.generation)
             }
         };

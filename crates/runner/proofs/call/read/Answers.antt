@@ -9,5 +9,5 @@ returns-in-Ok c =
     read-line (ledger_of c.args.ring.now c.args.slots.now) (ledger_of c.read.new.self c.args.slots.now)
     (length c.args.slots.now) c.args.ring.now.instance c.args.reader (unread c.in-Ok.view)
     c.parts.result.0.now c.parts.result.1.now c.requires
-    (joined_runs _ _ _ _ c.parts.ensures.first c.parts.ensures.second ∙ all_unread _ _ _ _ _ c.in-Ok.ensures.runs)
+    (joined_runs _ _ _ _ c.parts.ensures.first c.parts.ensures.second ∙ all_unread _ _ _ _ _ c.in-Ok.ensures.runs.2)
     c.in-Ok.ensures.ledger
