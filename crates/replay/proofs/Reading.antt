@@ -1,5 +1,5 @@
 -- A read hands out no more events than there are slots.
-use Rattle.std.proofs.Common.{◌≡◌, ℕ, ◌+◌, ◌-◌, ◌<◌, ◌≤◌, Bool, true, false, cond, eqb, List, ◌++◌, length, Some, Option, sym, ap, ◌∙◌, mod-lt, arith, length-take}
+use Rattle.std.proofs.Common.{◌≡◌, ℕ, ◌+◌, ◌-◌, ◌<◌, ◌≤◌, Bool, true, false, cond, eqb, List, ◌++◌, length, Some, Option, sym, ap, ◌∙◌, mod-lt, arith, length-append}
 use Rattle.ledger.specs.Ledger.{Ledger, Answer, outcome}
 use Rattle.ledger.specs.Ledger.Call.{read}
 use Rattle.ledger.specs.Ledger.Answer.{handed}
@@ -39,7 +39,7 @@ module _ {E : Type 0} where
   handed-few r t slots v instance n reader told runs =
       let own : length slots ≡ r.slots = own_slots (ledger_of r slots) (length slots) instance n (unread v) (sym (ap (λ x. x.0) told)) in
       let few = unread-few r.last.index r.last.size r.generation reader (omega (arith, r.small)) in
-      let cut = length-take v.left (v.first.now ++ v.second.now) in
+      let both = length-append v.first.now v.second.now in
       omega (arith, runs.left, r.room)
 
   -- the events of the log are those that the read handed out

@@ -81,13 +81,11 @@ impl<E> EventChannel<E> {
         if id.instance != self.instance() {
             return Err((Fault::OtherChannel, id));
         }
-        match self.ring.close(id.number) {
-            Ok(()) => {
-                let _number = id.give_up();
-                Ok(())
-            }
-            Err(fault) => Err((fault, id)),
+        if let Err(fault) = self.ring.close(id.number) {
+            return Err((fault, id));
         }
+        let _number = id.give_up();
+        Ok(())
     }
 
     // The events accepted since the reader's last read, or since its registration.

@@ -13,6 +13,7 @@ mod tests {
     use source::range::Range;
     use source::slice::Slice;
     use source::ticket::Ticket;
+    use std::array;
     use std::test::Fail;
     use storage::ring::RingBuffer;
     use storage::util::Issuer;
@@ -25,22 +26,21 @@ mod tests {
         Ok(RingBuffer::new(issuer.open(size, slots)?))
     }
 
-    fn refusal<T: Drop>(r: Result<T, Fault>) -> u8 {
-        match r {
-            Ok(_) => 0,
-            Err(fault) => fault.number(),
-        }
+    fn refusal<T: Drop>(r: Result<T, Fault>) -> Option<u8> {
+        r.err().map(Fault::number)
     }
 
-    // A write's answer in figures: the number of its refusal, or 0 with its count and the size.
-    fn figures(r: Result<Written, Fault>) -> (u8, usize, usize) {
-        match r {
-            Ok(Written { count, size }) => (0, count, size),
-            Err(fault) => (fault.number(), 0, 0),
-        }
+    // A write's answer in figures: its count and the size, or the number of its refusal.
+    fn figures(r: Result<Written, Fault>) -> Result<(usize, usize), u8> {
+        let Written { count, size } = r.map_err(Fault::number)?;
+        Ok((count, size))
     }
 
-    fn put<E: Copy>(ring: &mut RingBuffer<E>, slots: &mut [E], events: &[E]) -> (u8, usize, usize) {
+    fn put<E: Copy>(
+        ring: &mut RingBuffer<E>,
+        slots: &mut [E],
+        events: &[E],
+    ) -> Result<(usize, usize), u8> {
         figures(ring.iter_write(slots, &mut Slice::new(events)))
     }
 
@@ -50,15 +50,18 @@ mod tests {
         let mut two = [0u32; 2];
         let mut tight = ring(2, 2)?;
         assert_eq!(rt; tight.new_reader_id()?, 0);
-        assert_eq!(rt; put(&mut tight, &mut two, &[7, 8]), (0, 2, 2));
+        assert_eq!(rt; put(&mut tight, &mut two, &[7, 8]), Ok((2, 2)));
         assert_eq!(rt; tight.read(&two, 0)?.parts(), (&[7, 8][..], NONE));
         let mut three = [0u32; 3];
         let mut roomier = ring(2, 3)?;
         assert_eq!(rt; roomier.new_reader_id()?, 0);
-        assert_eq!(rt; put(&mut roomier, &mut three, &[7, 8]), (0, 2, 2));
+        assert_eq!(rt; put(&mut roomier, &mut three, &[7, 8]), Ok((2, 2)));
         let nine = [9];
         let mut source = Slice::new(&nine);
-        assert_eq!(rt; refusal(roomier.iter_write(&mut three, &mut source)), 9);
+        assert_eq!(rt;
+            refusal(roomier.iter_write(&mut three, &mut source)),
+            Some(9)
+        );
         assert_eq!(rt; source.len(), 1);
         assert_eq!(rt; three, [7, 8, 0]);
         assert_eq!(rt; roomier.read(&three, 0)?.parts(), (&[7, 8][..], NONE));
@@ -70,16 +73,16 @@ mod tests {
         let mut four = [0u32; 4];
         let mut from_zero = ring(2, 4)?;
         assert_eq!(rt; from_zero.new_reader_id()?, 0);
-        assert_eq!(rt; put(&mut from_zero, &mut four, &[7, 8]), (0, 2, 2));
-        assert_eq!(rt; put(&mut from_zero, &mut four, &[9]), (0, 1, 4));
+        assert_eq!(rt; put(&mut from_zero, &mut four, &[7, 8]), Ok((2, 2)));
+        assert_eq!(rt; put(&mut from_zero, &mut four, &[9]), Ok((1, 4)));
         assert_eq!(rt; four, [7, 8, 9, 8]);
         assert_eq!(rt; from_zero.read(&four, 0)?.parts(), (&[7, 8, 9][..], NONE));
         let mut eight = [0u32; 8];
         let mut inside = ring(4, 8)?;
-        assert_eq!(rt; put(&mut inside, &mut eight, &[1, 2, 3]), (0, 3, 4));
+        assert_eq!(rt; put(&mut inside, &mut eight, &[1, 2, 3]), Ok((3, 4)));
         assert_eq!(rt; inside.new_reader_id()?, 0);
-        assert_eq!(rt; put(&mut inside, &mut eight, &[4, 5]), (0, 2, 4));
-        assert_eq!(rt; put(&mut inside, &mut eight, &[6, 7, 8]), (0, 3, 8));
+        assert_eq!(rt; put(&mut inside, &mut eight, &[4, 5]), Ok((2, 4)));
+        assert_eq!(rt; put(&mut inside, &mut eight, &[6, 7, 8]), Ok((3, 8)));
         assert_eq!(rt; eight, [5, 6, 7, 8, 0, 2, 3, 4]);
         assert_eq!(rt;
             inside.read(&eight, 0)?.parts(),
@@ -96,14 +99,8 @@ mod tests {
         let number = ring.new_reader_id()?;
         ring.iter_write(&mut slots, &mut Range::new(0, lag))?;
         ring.iter_write(&mut slots, &mut Range::new(lag, 8))?;
-        let mut out = [99u32; 8];
         let mut view = ring.read(&slots, number)?;
-        for place in out.iter_mut() {
-            if let Some(event) = view.next() {
-                *place = event;
-            }
-        }
-        Ok(out)
+        Ok(array::from_fn(|_| view.next().unwrap_or(99)))
     }
 
     #[test]
@@ -121,26 +118,26 @@ mod tests {
     fn reads(rt: HostRuntime) -> Result<(), Fail> {
         let mut slots = [0u32; 8];
         let mut ring = ring(8, 8)?;
-        assert_eq!(rt; refusal(ring.read(&slots, 0)), 7);
+        assert_eq!(rt; refusal(ring.read(&slots, 0)), Some(7));
         assert_eq!(rt;
             figures(ring.iter_write(&mut slots, &mut Range::new(1, 7))),
-            (0, 6, 8)
+            Ok((6, 8))
         );
         assert_eq!(rt; ring.new_reader_id()?, 0);
         assert_eq!(rt;
             figures(ring.iter_write(&mut slots, &mut Range::new(7, 12))),
-            (0, 5, 8)
+            Ok((5, 8))
         );
-        assert_eq!(rt; refusal(ring.read(&[0; 9], 0)), 5);
+        assert_eq!(rt; refusal(ring.read(&[0; 9], 0)), Some(5));
         assert_eq!(rt;
             ring.read(&slots, 0)?.parts(),
             (&[7, 8][..], &[9, 10, 11][..])
         );
-        assert_eq!(rt; put(&mut ring, &mut slots, NONE), (0, 0, 8));
+        assert_eq!(rt; put(&mut ring, &mut slots, NONE), Ok((0, 8)));
         let mut nothing = Drain::new(&[5], 0)?;
         assert_eq!(rt;
             figures(ring.drain_vec_write(&mut slots, &mut nothing)),
-            (0, 0, 8)
+            Ok((0, 8))
         );
         assert_eq!(rt; ring.read(&slots, 0)?.parts(), (NONE, NONE));
         Ok(())
@@ -152,16 +149,16 @@ mod tests {
         for number in 0..64usize {
             assert_eq!(rt; ring.new_reader_id()?, number);
         }
-        assert_eq!(rt; refusal(ring.new_reader_id()), 4);
+        assert_eq!(rt; refusal(ring.new_reader_id()), Some(4));
         ring.close(63)?;
         ring.close(5)?;
         ring.close(40)?;
-        assert_eq!(rt; refusal(ring.close(5)), 7);
-        assert_eq!(rt; refusal(ring.close(64)), 7);
+        assert_eq!(rt; refusal(ring.close(5)), Some(7));
+        assert_eq!(rt; refusal(ring.close(64)), Some(7));
         assert_eq!(rt; ring.new_reader_id()?, 40);
         assert_eq!(rt; ring.new_reader_id()?, 5);
         assert_eq!(rt; ring.new_reader_id()?, 63);
-        assert_eq!(rt; refusal(ring.new_reader_id()), 4);
+        assert_eq!(rt; refusal(ring.new_reader_id()), Some(4));
         Ok(())
     }
 
@@ -172,7 +169,7 @@ mod tests {
         assert_eq!(rt; ring.new_reader_id()?, 0);
         assert_eq!(rt; ring.new_reader_id()?, 1);
         ring.close(1)?;
-        assert_eq!(rt; refusal(ring.read(&slots, 1)), 7);
+        assert_eq!(rt; refusal(ring.read(&slots, 1)), Some(7));
         assert!(rt; ring.would_write());
         ring.close(0)?;
         assert!(rt; !ring.would_write());
@@ -186,15 +183,15 @@ mod tests {
     fn refused_writes(rt: HostRuntime) -> Result<(), Fail> {
         let mut slots = [0u32; 4];
         let mut ring = ring(2, 4)?;
-        assert_eq!(rt; put(&mut ring, &mut [0; 5], NONE), (5, 0, 0));
-        assert_eq!(rt; put(&mut ring, &mut [0; 5], &[1, 2, 3]), (5, 0, 0));
-        assert_eq!(rt; put(&mut ring, &mut slots, &[1, 2, 3]), (8, 0, 0));
-        assert_eq!(rt; put(&mut ring, &mut slots, &[1, 2]), (0, 2, 2));
+        assert_eq!(rt; put(&mut ring, &mut [0; 5], NONE), Err(5));
+        assert_eq!(rt; put(&mut ring, &mut [0; 5], &[1, 2, 3]), Err(5));
+        assert_eq!(rt; put(&mut ring, &mut slots, &[1, 2, 3]), Err(8));
+        assert_eq!(rt; put(&mut ring, &mut slots, &[1, 2]), Ok((2, 2)));
         let mut long = Range::new(0, 4_294_967_295);
-        assert_eq!(rt; refusal(ring.iter_write(&mut slots, &mut long)), 8);
+        assert_eq!(rt; refusal(ring.iter_write(&mut slots, &mut long)), Some(8));
         assert_eq!(rt; ring.new_reader_id()?, 0);
-        assert_eq!(rt; refusal(ring.iter_write(&mut slots, &mut long)), 9);
-        assert_eq!(rt; refusal(ring.iter_write(&mut [0; 5], &mut long)), 5);
+        assert_eq!(rt; refusal(ring.iter_write(&mut slots, &mut long)), Some(9));
+        assert_eq!(rt; refusal(ring.iter_write(&mut [0; 5], &mut long)), Some(5));
         assert_eq!(rt; long.len(), 4_294_967_295);
         assert_eq!(rt; slots, [1, 2, 0, 0]);
         assert_eq!(rt; ring.read(&slots, 0)?.parts(), (NONE, NONE));
@@ -204,17 +201,17 @@ mod tests {
     #[test]
     fn openings(rt: HostRuntime) -> Result<(), Fail> {
         let mut issuer = Issuer::new(4_294_967_295);
-        assert_eq!(rt; refusal(issuer.open(0, 0)), 1);
-        assert_eq!(rt; refusal(issuer.open(1, 1_048_577)), 1);
-        assert_eq!(rt; refusal(issuer.open(1_048_578, 1_048_577)), 2);
-        assert_eq!(rt; refusal(issuer.open(2, 1)), 3);
-        assert_eq!(rt; refusal(issuer.open_default(63)), 3);
+        assert_eq!(rt; refusal(issuer.open(0, 0)), Some(1));
+        assert_eq!(rt; refusal(issuer.open(1, 1_048_577)), Some(1));
+        assert_eq!(rt; refusal(issuer.open(1_048_578, 1_048_577)), Some(2));
+        assert_eq!(rt; refusal(issuer.open(2, 1)), Some(3));
+        assert_eq!(rt; refusal(issuer.open_default(63)), Some(3));
         let last: EventChannel<u32> = EventChannel::new(issuer.open_default(1_048_576)?);
         assert_eq!(rt; last.instance(), 4_294_967_295);
         assert_eq!(rt; last.size(), 64);
         assert_eq!(rt; last.slot_count(), 1_048_576);
-        assert_eq!(rt; refusal(issuer.open(2, 2)), 12);
-        assert_eq!(rt; refusal(issuer.open(2, 1)), 3);
+        assert_eq!(rt; refusal(issuer.open(2, 2)), Some(12));
+        assert_eq!(rt; refusal(issuer.open(2, 1)), Some(3));
         Ok(())
     }
 
@@ -252,14 +249,14 @@ mod tests {
         let (closing, mut id) = close_elsewhere(&mut other, id)?;
         let names = (id.instance(), id.number());
         let written = figures(own.single_write(&mut slots, 3));
-        let handed = match own.read(&slots, &mut id) {
-            Ok(mut view) => view.next(),
-            Err(_) => None,
-        };
+        let handed = own
+            .read(&slots, &mut id)
+            .ok()
+            .and_then(|mut view| view.next());
         let closed = closes(&mut own, id);
-        assert_eq!(rt; (slots_first, elsewhere, closing), (5, 6, 6));
+        assert_eq!(rt; (slots_first, elsewhere, closing), (Some(5), Some(6), 6));
         assert_eq!(rt; names, (7, 0));
-        assert_eq!(rt; written, (0, 1, 2));
+        assert_eq!(rt; written, Ok((1, 2)));
         assert_eq!(rt; handed, Some(3));
         assert!(rt; closed);
         assert!(rt; !own.would_write());
@@ -275,9 +272,9 @@ mod tests {
         let id = channel.register_reader()?;
         assert_eq!(rt; id.give_up(), 0);
         assert!(rt; channel.would_write());
-        assert_eq!(rt; figures(channel.single_write(&mut slots, 1)), (0, 1, 2));
-        assert_eq!(rt; figures(channel.single_write(&mut slots, 2)), (0, 1, 2));
-        assert_eq!(rt; figures(channel.single_write(&mut slots, 3)), (9, 0, 0));
+        assert_eq!(rt; figures(channel.single_write(&mut slots, 1)), Ok((1, 2)));
+        assert_eq!(rt; figures(channel.single_write(&mut slots, 2)), Ok((1, 2)));
+        assert_eq!(rt; figures(channel.single_write(&mut slots, 3)), Err(9));
         Ok(())
     }
 
@@ -297,7 +294,7 @@ mod tests {
         let mut slots = [low; 4];
         let mut ring = ring(2, 4)?;
         assert_eq!(rt; ring.new_reader_id()?, 0);
-        assert_eq!(rt; put(&mut ring, &mut slots, &[high, low, high]), (0, 3, 4));
+        assert_eq!(rt; put(&mut ring, &mut slots, &[high, low, high]), Ok((3, 4)));
         let mut view = ring.read(&slots, 0)?;
         assert_eq!(rt; view.parts(), (&[high, low][..], &[high][..]));
         let mut copies = [low; 4];
@@ -306,7 +303,7 @@ mod tests {
         assert_eq!(rt; mirror.new_reader_id()?, 0);
         assert_eq!(rt;
             figures(mirror.iter_write(&mut copies, &mut view)),
-            (0, 3, 4)
+            Ok((3, 4))
         );
         assert_eq!(rt; view.len(), 0);
         assert_eq!(rt; mirror.read(&copies, 0)?.parts().0, &[high, low, high][..]);
@@ -327,7 +324,7 @@ mod tests {
         let mut ticket = Ticket::new(7, 100, &legs)?;
         assert_eq!(rt;
             figures(ring.iter_write(&mut slots, &mut ticket)),
-            (0, 3, 4)
+            Ok((3, 4))
         );
         assert_eq!(rt; ticket.len(), 0);
         let mut view = ring.read(&slots, 0)?;

@@ -66,7 +66,6 @@ module _ (available last size slots generation : ℕ) (g : ReaderMeta) where
         small : 2 ≤ size;
         room : size ≤ slots;
         few : slots ≤ 1048576;
-        within : last < size;
         spare : available ≤ size;
         ahead : Ahead g.readers last size generation available;
         places : Places g.readers size;
@@ -78,13 +77,12 @@ module _ (available last size slots generation : ℕ) (g : ReaderMeta) where
         apart : Apart g;
       }
 
-  pub facts : 2 ≤ size → size ≤ slots → slots ≤ 1048576 → last < size → available ≤ size → Kept last size generation available g → Facts
-  facts small room few within spare k =
+  pub facts : 2 ≤ size → size ≤ slots → slots ≤ 1048576 → available ≤ size → Kept last size generation available g → Facts
+  facts small room few spare k =
       record {
         small = small;
         room = room;
         few = few;
-        within = within;
         spare = spare;
         ahead = k.ahead;
         places = k.places;
@@ -119,13 +117,13 @@ module _ {E : Type 0} (r : RingBuffer E) where
   with_set g n o same p sound =
       let P : Reader → Type 0 = Fine last_of size_of r.generation r.available in
       let all : Each P g.readers = subst (λ (rs : List (Option Reader)). Each P rs) (sym same) (each_set P r.meta.readers n o p fine_of) in
-      facts r.available last_of size_of r.slots r.generation g r.small r.room r.few r.within r.spare (kept last_of size_of r.generation r.available g all sound)
+      facts r.available last_of size_of r.slots r.generation g r.small r.room r.few r.spare (kept last_of size_of r.generation r.available g all sound)
 
   -- the same, where the entry has just registered or read
   with-fresh : (g : ReaderMeta) (n : ℕ) → r.generation < 2 ^ 64 → g.readers ≡ set r.meta.readers n (Some (fresh last_of r.generation)) → Sound g → With g
   with-fresh g n fits same sound =
       with_set g n (Some (fresh last_of r.generation)) same
-      (λ e is. let here : fresh last_of r.generation ≡ e = cc in subst (λ (x : Reader). Fine last_of size_of r.generation r.available x) here (fresh-fine last_of size_of r.generation r.available r.within r.spare fits)) sound
+      (λ e is. let here : fresh last_of r.generation ≡ e = cc in subst (λ (x : Reader). Fine last_of size_of r.generation r.available x) here (fresh-fine last_of size_of r.generation r.available r.last.within r.spare fits)) sound
 
   -- a registration
   pub with_alloc : (g : ReaderMeta) (n : ℕ) → r.generation < 2 ^ 64 → Alloc r.meta g last_of r.generation (Some n) → With g

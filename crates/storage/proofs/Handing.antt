@@ -17,6 +17,7 @@ use Rattle.storage.specs.Meta.{most, no_readers, advanced}
 use Rattle.storage.specs.Slots.{part, waiting_in}
 use Rattle.storage.specs.Ledgers.{reader_of, ledger_with, ledger_of}
 use Rattle.storage.specs.Calls.{unread_place, unread_count, Runs}
+use Rattle.storage.specs.Views.{unread as handed-events}
 use Rattle.storage.proofs.Distances.{distance-le, unread-distance}
 use Rattle.storage.proofs.Entries.{not_open}
 use Rattle.storage.proofs.Lifts.{reader_at_of, open_at_of, none_open_of, some_open_of}
@@ -76,27 +77,24 @@ pub new_ledger : {E : Type 0} (instance count : ℕ) (slots : List E) (last size
 new_ledger instance count slots last size generation asked g e none = rw (none, all_shut slots last size generation most, e)
 
 module _ {E : Type 0} (r : RingBuffer E) (slots : List E) where
-  -- the two runs of a read
-  abbrev pub both_runs : ℕ → ℕ → List E
-  both_runs from count = part slots from (min count (r.last.size - from)) ++ part slots 0 (count - (r.last.size - from))
-
   -- a read that hands out both runs and leaves the reader with nothing to read
-  pub read-hands : (n : ℕ) (reader : Reader) (g : ReaderMeta) (xs : List E) → length slots ≡ r.slots → entry r.meta.readers n ≡ Some reader
-      → g ≡ advanced r.meta n r.last.index r.generation → xs ≡ both_runs (unread_place r reader) (unread_count r reader)
-      → (ledger.handed xs, ledger_with r.instance r.slots slots r.last.index r.last.size r.generation g)
+  pub read-hands : (n : ℕ) (reader : Reader) (g : ReaderMeta) (v : View E) → length slots ≡ r.slots → entry r.meta.readers n ≡ Some reader
+      → g ≡ advanced r.meta n r.last.index r.generation → Runs slots (unread_place r reader) (unread_count r reader) r.last.size v
+      → (ledger.handed (handed-events v), ledger_with r.instance r.slots slots r.last.index r.last.size r.generation g)
       ≡ outcome (ledger_of r slots) (ledger.read (length slots) r.instance n)
-  read-hands n reader g xs same at is runs =
+  read-hands n reader g v same at is runs =
       let wide : r.last.size ≤ length slots = omega (arith, r.room) in
-      let list = runs ∙ runs_unread slots r.last.index r.last.size r.generation reader (unread_place r reader) wide r.within (r.places n reader at) (r.level n reader at) refl in
+      let list : handed-events v ≡ waiting_in slots r.last.index r.last.size r.generation reader =
+      rw (runs.first, runs.second) (runs_unread slots r.last.index r.last.size r.generation reader (unread_place r reader) wide r.last.within (r.places n reader at) (r.level n reader at) refl) in
       ap (λ ys. (ledger.handed ys, ledger_with r.instance r.slots slots r.last.index r.last.size r.generation g)) list
       ∙ ap (λ (m : ReaderMeta). (ledger.handed (waiting_in slots r.last.index r.last.size r.generation reader), ledger_with r.instance r.slots slots r.last.index r.last.size r.generation m)) is
-      ∙ read-open r.instance r.slots slots r.last.index r.last.size r.generation r.within r.meta (length slots) n reader same at
+      ∙ read-open r.instance r.slots slots r.last.index r.last.size r.generation r.last.within r.meta (length slots) n reader same at
 
   -- a read of a number that is not open
   pub read-refused : (n : ℕ) (fault : Fault) → length slots ≡ r.slots → fault ≡ NotOpen → Shut r.meta.readers n
       → (ledger.refused (number_of fault), ledger_of r slots) ≡ outcome (ledger_of r slots) (ledger.read (length slots) r.instance n)
-  read-refused n fault same is dead = rw is (read-shut r.instance r.slots slots r.last.index r.last.size r.generation r.within r.meta (length slots) n same dead)
+  read-refused n fault same is dead = rw is (read-shut r.instance r.slots slots r.last.index r.last.size r.generation r.last.within r.meta (length slots) n same dead)
 
 -- the same view, of the same figures
-pub same_runs : {E : Type 0} (slots : List E) (from at count many size : ℕ) (v : View E) → from ≡ at → count ≡ many → Runs slots from count size v → Runs slots at many size v
-same_runs slots from at count many size v e f h = rw (← e, ← f) h
+pub same_runs : {E : Type 0} (slots : List E) (from at count many size round : ℕ) (v : View E) → from ≡ at → count ≡ many → size ≡ round → Runs slots from count size v → Runs slots at many round v
+same_runs slots from at count many size round v e f g h = rw (← e, ← f, ← g) h

@@ -14,5 +14,4 @@ pub mod Rooms
 pub mod Shifts
 pub mod Stores
 pub mod Storing
-pub mod Viewing
 pub mod Waiting

@@ -58,7 +58,7 @@ module _ {E : Type 0} where
       subst (λ (xs : List E). Stored r r slots slots xs) (sym none)
       record {
         slots = rw (eq-eqb r.last.size r.last.size refl);
-        last = sym (last_after-none r.last.size r.last.index r.within);
+        last = sym (last_after-none r.last.size r.last.index r.last.within);
         available = rw (le-leb 0 r.available (omega arith)) (omega arith);
         generation = refl;
       }

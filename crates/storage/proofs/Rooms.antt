@@ -38,7 +38,7 @@ module _ {E : Type 0} (r : RingBuffer E) (slots : List E) (own : length slots �
   room = omega (arith, r.room, own)
 
   unread-length : (e : Reader) → length (waiting_in slots r.last.index r.last.size r.generation e) ≡ r.last.size - far e
-  unread-length e = length-waiting_in slots r.last.size room r.last.index r.generation e r.within
+  unread-length e = length-waiting_in slots r.last.size room r.last.index r.generation e r.last.within
 
   -- so many events fit where nobody is nearer
   pub fits-as_is : (num : ℕ) → Each (λ e. num ≤ far e) rs → num ≤ r.last.size → (no_room L num ≡ None) × (size_then L num ≡ r.last.size)
@@ -132,7 +132,7 @@ module _ {E : Type 0} (r : RingBuffer E) (slots : List E) (own : length slots �
   nearest_ahead e left near same k s is = omega (arith, near.all k s is, same)
 
   pub nearest_least : (e : Reader) (left : ℕ) → Closest e → left ≡ far e → left ≤ r.last.size
-  nearest_least e left near same = omega (arith, same, distance-le r.last.index r.last.size r.generation e r.within (r.places near.number e near.here))
+  nearest_least e left near same = omega (arith, same, distance-le r.last.index r.last.size r.generation e r.last.within (r.places near.number e near.here))
 
   pub somebody_available : (num : ℕ) (e : Reader) (left : ℕ) → Closest e → left ≡ far e → r.available < num → num ≤ left → left ≡ available_then r L num
   somebody_available num e left near same short enough =
@@ -147,7 +147,6 @@ module _ {E : Type 0} (r : RingBuffer E) (slots : List E) (own : length slots �
         small = r.small;
         room = r.room;
         few = r.few;
-        within = r.within;
         spare = least;
         ahead = ahead;
         places = r.places;

@@ -1,9 +1,10 @@
 -- Storing, from the slots to the ledger's readers.
-use Rattle.std.proofs.Common.{◌≡◌, ℕ, ◌+◌, ◌-◌, ◌%◌, ◌^◌, ◌<◌, ◌≤◌, ◌≢◌, List, map, length, drop, Some, Option, sym, refl, ap, ◌∙◌, subst, mod-lt, arith}
+use Rattle.std.proofs.Common.{◌≡◌, ℕ, ◌+◌, ◌-◌, ◌%◌, ◌^◌, ◌<◌, ◌≤◌, ◌≢◌, List, map, length, drop, Some, Option, sym, refl, ap, ◌∙◌, subst, arith}
 use Rattle.std.specs.Option.{option_map}
 use mathlib.Core.List.{map-map}
 use Rattle.ledger.specs.Ledger as ledger
 use Rattle.ledger.specs.Ledger.{Ledger}
+use Rattle.storage.specs.declared.circular.CircularIndex.{CircularIndex}
 use Rattle.storage.specs.declared.reader.Reader.{Reader}
 use Rattle.storage.specs.Registry.{distance, shifted, Each}
 use Rattle.storage.specs.Kept.{lag, Ahead}
@@ -126,45 +127,42 @@ module _ {E : Type 0} (r : RingBuffer E) (fits : r.generation < 2 ^ 64) where
   meta = r.meta
 
   pub all_fit : Each (Fit last size r.generation r.available) meta.readers
-  all_fit k e is = record { below = r.within; few = omega (arith, r.room, r.few); fits = fits; fine = fine_of r k e is }
+  all_fit k e is = record { below = r.last.within; few = r.last.small; fits = fits; fine = fine_of r k e is }
 
   -- growth keeps what a ring keeps
-  pub grown-facts : (h : ReaderMeta) (g left : ℕ) → h ≡ shifted_all meta last r.generation g → size ≤ g → size + g ≤ r.slots → left ≤ size
-      → Ahead meta.readers last size r.generation left → Facts (left + g) last (size + g) r.slots r.generation h
-  grown-facts h g left e double wide least ahead =
+  pub grown-facts : (h : ReaderMeta) (then : CircularIndex) (g left : ℕ) → h ≡ shifted_all meta last r.generation g → then.index ≡ last → then.size ≡ size + g
+      → size ≤ g → size + g ≤ r.slots → left ≤ size → Ahead meta.readers last size r.generation left → Facts (left + g) then.index then.size r.slots r.generation h
+  grown-facts h then g left e at is double wide least ahead =
       let some : 1 ≤ g = omega (arith, r.small) in
       let fine = each_map (shifted last r.generation g) (Fine last (size + g) r.generation (left + g)) meta.readers
-      (λ k x is. grown-fine last size r.generation r.available g some left x (all_fit k x is) (ahead k x is)) in
-      let P : ReaderMeta → Type 0 = Facts (left + g) last (size + g) r.slots r.generation in
-      subst P (sym e) (
-      facts (left + g) last (size + g) r.slots r.generation (shifted_all meta last r.generation g) (omega (arith, r.small)) wide r.few (omega (arith, r.within)) (omega arith)
+      (λ k x here. grown-fine last size r.generation r.available g some left x (all_fit k x here) (ahead k x here)) in
+      rw (e, at, is) (
+      facts (left + g) last (size + g) r.slots r.generation (shifted_all meta last r.generation g) (omega (arith, r.small)) wide r.few (omega arith)
       (kept last (size + g) r.generation (left + g) (shifted_all meta last r.generation g) fine (shifted-sound meta last r.generation g (sound-of r))))
 
   -- and changes the ledger's size alone
-  pub grown-ledger : (old new : List E) (h : ReaderMeta) (g : ℕ)
-      → h ≡ shifted_all meta last r.generation g → new ≡ grown old ((last + 1) % size) size g → size ≤ g → size + g ≤ length old
-      → ledger_with r.instance r.slots new last (size + g) r.generation h ≡ with_size (ledger_of r old) (size + g)
-  grown-ledger old new h g e s double room =
-      ap (λ m. ledger_with r.instance r.slots new last (size + g) r.generation m) e
+  pub grown-ledger : (old new : List E) (h : ReaderMeta) (then : CircularIndex) (g : ℕ)
+      → h ≡ shifted_all meta last r.generation g → then.index ≡ last → then.size ≡ size + g → new ≡ grown old ((last + 1) % size) size g → size ≤ g → size + g ≤ length old
+      → ledger_with r.instance r.slots new then.index then.size r.generation h ≡ with_size (ledger_of r old) (size + g)
+  grown-ledger old new h then g e at is s double room =
+      rw (e, at, is) refl
       ∙ ap (λ xs. ledger_with r.instance r.slots xs last (size + g) r.generation (shifted_all meta last r.generation g)) s
       ∙ ap (figures r.instance r.slots (size + g) meta.used (stack_of meta.free meta.freed)) (grown-readers old last size r.generation r.available g double room meta.readers all_fit)
 
   -- storing keeps what a ring keeps
-  pub stored-facts : (newest n : ℕ) → newest ≡ last_after size last n → 1 ≤ n → n ≤ r.available
-      → Facts (r.available - n) newest size r.slots ((r.generation + 1) % 2 ^ 64) meta
-  stored-facts newest n e some enough =
-      let all : 0 < size = omega (arith, r.small) in
-      let P : ℕ → Type 0 = λ l. Facts (r.available - n) l size r.slots ((r.generation + 1) % 2 ^ 64) meta in
-      subst P (sym e) (
-      facts (r.available - n) (last_after size last n) size r.slots ((r.generation + 1) % 2 ^ 64) meta r.small r.room r.few (mod-lt (last + n) all) (omega (arith, r.spare))
+  pub stored-facts : (then : CircularIndex) (n : ℕ) → then.index ≡ last_after size last n → then.size ≡ size → 1 ≤ n → n ≤ r.available
+      → Facts (r.available - n) then.index then.size r.slots ((r.generation + 1) % 2 ^ 64) meta
+  stored-facts then n at is some enough =
+      rw (at, is) (
+      facts (r.available - n) (last_after size last n) size r.slots ((r.generation + 1) % 2 ^ 64) meta r.small r.room r.few (omega (arith, r.spare))
       (kept (last_after size last n) size ((r.generation + 1) % 2 ^ 64) (r.available - n) meta
-      (λ k x is. stored-fine last size r.generation r.available n some enough x (all_fit k x is)) (sound-of r)))
+      (λ k x here. stored-fine last size r.generation r.available n some enough x (all_fit k x here)) (sound-of r)))
 
   -- and joins the events to every unread list
-  pub stored-ledger : (old new : List E) (newest : ℕ) (xs : List E)
-      → new ≡ stored old size last xs → newest ≡ last_after size last (length xs) → 1 ≤ length xs → length xs ≤ r.available → size ≤ length old
-      → ledger_with r.instance r.slots new newest size ((r.generation + 1) % 2 ^ 64) meta ≡ with_joined (ledger_of r old) xs
-  stored-ledger old new at xs s e some enough room =
-      ap (λ l. ledger_with r.instance r.slots new l size ((r.generation + 1) % 2 ^ 64) meta) e
+  pub stored-ledger : (old new : List E) (then : CircularIndex) (xs : List E)
+      → new ≡ stored old size last xs → then.index ≡ last_after size last (length xs) → then.size ≡ size → 1 ≤ length xs → length xs ≤ r.available → size ≤ length old
+      → ledger_with r.instance r.slots new then.index then.size ((r.generation + 1) % 2 ^ 64) meta ≡ with_joined (ledger_of r old) xs
+  stored-ledger old new then xs s at is some enough room =
+      rw (at, is) refl
       ∙ ap (λ ys. ledger_with r.instance r.slots ys (last_after size last (length xs)) size ((r.generation + 1) % 2 ^ 64) meta) s
       ∙ ap (figures r.instance r.slots size meta.used (stack_of meta.free meta.freed)) (stored-readers old last size r.generation r.available room xs some enough meta.readers all_fit)

@@ -1,5 +1,5 @@
 -- What a call leaves of a ring beside what the ledger says. Assumes nothing.
-use Rattle.std.specs.Prelude.{◌≡◌, ℕ, ◌+◌, ◌-◌, ◌%◌, ◌≤◌, min, List, [], Some, Ok, Err, Result}
+use Rattle.std.specs.Prelude.{◌≡◌, ℕ, ◌+◌, ◌-◌, ◌%◌, ◌≤◌, min, List, [], length, Some, Ok, Err, Result}
 use Rattle.storage.specs.declared.reader.Reader.{Reader}
 use Rattle.storage.specs.declared.ring.RingBuffer.{RingBuffer}
 use Rattle.storage.specs.declared.view.View.{View}
@@ -32,7 +32,7 @@ module _ {E : Type 0} where
     pub first : v.first.now ≡ part slots from (min count (size - from))
     pub second : v.second.now ≡ part slots 0 (count - (size - from))
     pub whole : count ≤ size - from → v.second.now ≡ []
-    pub left : v.left ≡ count
+    pub left : length v.first.now + length v.second.now ≡ count
 
   -- a read hands out exactly the unread events' runs
   abbrev pub ReadsRuns : {F : Type 0} → Result (View E) F → RingBuffer E → List E → ℕ → Type 0

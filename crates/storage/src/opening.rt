@@ -13,7 +13,8 @@ impl<E> RingBuffer<E> {
     pub fn new(grant: Grant) -> Self
         ensures ledger { (slots : List E) → ledger_of result slots ≡ fresh grant.instance grant.size grant.slots }
         ensures available { result.available ≡ grant.size }
-        ensures last { result.last ≡ record { index = grant.size - 1; size = grant.size } }
+        ensures last { result.last.index ≡ grant.size - 1 }
+        ensures size { result.last.size ≡ grant.size }
         ensures generation { result.generation ≡ 0 }
     {
         RingBuffer {

@@ -26,9 +26,7 @@ pub struct ReaderMeta {
 
 impl Reader {
     pub(crate) fn distance_from(&self, last: CircularIndex, generation: u64) -> usize
-        requires within { self.now.place < last.size }
-        requires below { last.index < last.size }
-        requires small { last.size ≤ 1048576 }
+        requires { self.now.place < last.size }
         ensures { result ≡ distance last.index last.size generation self.now }
     {
         let this = CircularIndex::new(self.place, last.size);
@@ -40,9 +38,7 @@ impl Reader {
 
     // How many events wait: the whole ring where only the generations differ.
     pub(crate) fn unread_from(&self, last: CircularIndex, generation: u64) -> usize
-        requires within { self.now.place < last.size }
-        requires below { last.index < last.size }
-        requires small { last.size ≤ 1048576 }
+        requires { self.now.place < last.size }
         ensures { result ≡ unread last.index last.size generation self.now }
     {
         if self.generation == generation {
@@ -133,9 +129,7 @@ impl ReaderMeta {
     // The number of the open reader of least distance: of equals the first stays. The search is a loop over the entries
     // with their index, as a rule of the project has it.
     pub(crate) fn nearest_index(&self, last: CircularIndex, generation: u64) -> Option<usize>
-        requires below { last.index < last.size }
-        requires small { last.size ≤ 1048576 }
-        requires places { Places self.now.readers last.size }
+        requires { Places self.now.readers last.size }
         ensures { Nearest (distance last.index last.size generation) self.now.readers most result }
     {
         let mut nearest: Option<(usize, usize)> = None;

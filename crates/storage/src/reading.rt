@@ -25,6 +25,6 @@ impl<E> RingBuffer<E> {
         let from = CircularIndex::new(reader.place, last.size).step();
         let count = reader.unread_from(last, self.generation);
         self.meta.advance(number, last.index, self.generation);
-        Ok(View::new(slots, from, count, last.size))
+        Ok(View::new(slots, from, count))
     }
 }

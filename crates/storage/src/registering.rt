@@ -28,9 +28,7 @@ impl<E> RingBuffer<E> {
         ensures rest { SameButReaders self.old self.new }
         ensures refused { Unchanged result self.old self.new }
     {
-        if self.meta.reader(number).is_none() {
-            return Err(Fault::NotOpen);
-        }
+        self.meta.reader(number).ok_or(Fault::NotOpen)?;
         self.meta.remove(number);
         Ok(())
     }

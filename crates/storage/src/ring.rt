@@ -1,4 +1,4 @@
-ghost use Rattle.std.specs.Prelude.{⊤, ◌≡◌, ◌<◌, ◌≤◌};
+ghost use Rattle.std.specs.Prelude.{⊤, ◌≡◌, ◌≤◌};
 ghost use Rattle.storage.specs.Kept.{Places, Bounded, Lags, Level, Ahead};
 ghost use Rattle.storage.specs.Meta.{Whole, Stack, Apart};
 
@@ -23,7 +23,6 @@ pub struct RingBuffer<E> {
     ghost small: { 2 ≤ last.size },
     ghost room: { last.size ≤ slots },
     ghost few: { slots ≤ 1048576 },
-    ghost within: { last.index < last.size },
     ghost spare: { available ≤ last.size },
     ghost ahead: { Ahead meta.readers last.index last.size generation available },
     ghost places: { Places meta.readers last.size },
@@ -35,6 +34,7 @@ pub struct RingBuffer<E> {
     ghost apart: { Apart meta },
 }
 
+// By hand: a derive is refused on a generic struct with a ghost field, and would ask for `E: Clone`.
 impl<E> Clone for RingBuffer<E> {
     ghost is_clone = { λ ring copy. copy ≡ ring };
 

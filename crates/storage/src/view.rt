@@ -1,34 +1,29 @@
-ghost use Rattle.std.specs.Prelude.{◌≡◌, ◌-◌, ◌<◌, ◌≤◌, min, [], ◌++◌, length};
-ghost use Rattle.storage.specs.Slots.{part};
-ghost use Rattle.storage.specs.Views.{unread};
+ghost use Rattle.std.specs.Prelude.{⊤, ◌≡◌, ◌+◌, ◌≤◌, length};
 
+use crate::circular::CircularIndex;
 use source::Source;
+use std::alloc::AllocError;
 
-// What a read hands out: the unread events, oldest first, as two runs of the slots, and how many are still to draw.
-#[derive(Clone, Copy)]
+// What a read hands out: the unread events, oldest first, as two runs of the slots.
 pub struct View<'a, E> {
     first: &'a [E],
     second: &'a [E],
-    left: usize,
+    ghost few: { length first.now + length second.now ≤ 1048576 },
 }
 
 impl<'a, E> View<'a, E> {
+    ghost use Rattle.storage.specs.Calls.{Runs};
+
     // `count` events from the place `from`, as far as the ring's end and then from place 0.
-    pub(crate) fn new(slots: &'a [E], from: usize, count: usize, size: usize) -> Self
-        requires inside { from < size }
-        requires fits { size ≤ length slots.now }
-        requires most { count ≤ size }
-        ensures first { result.first.now ≡ part slots.now from (min count (size - from)) }
-        ensures second { result.second.now ≡ part slots.now 0 (count - (size - from)) }
-        ensures left { result.left ≡ count }
-        ensures whole { count ≤ size - from → result.second.now ≡ [] }
-        ensures means { unread result ≡ part slots.now from (min count (size - from)) ++ part slots.now 0 (count - (size - from)) }
+    pub(crate) fn new(slots: &'a [E], from: CircularIndex, count: usize) -> Self
+        requires fits { from.size ≤ length slots.now }
+        requires most { count ≤ from.size }
+        ensures { Runs slots.now from.index count from.size result }
     {
-        let ahead = count.min(size - from);
+        let ahead = count.min(from.size - from.index);
         View {
-            first: &slots[from..from + ahead],
+            first: &slots[from.index..from.index + ahead],
             second: &slots[..count - ahead],
-            left: count,
         }
     }
 
@@ -41,28 +36,32 @@ impl<'a, E> View<'a, E> {
     }
 }
 
+// By hand: a derive is refused on a generic struct with a ghost field, and would ask for `E: Clone`.
+impl<'a, E> Clone for View<'a, E> {
+    ghost is_clone = { λ view copy. copy ≡ view };
+
+    ghost is_infallible = { λ _. ⊤ };
+
+    fn clone(&self) -> Result<Self, AllocError> {
+        Ok(*self)
+    }
+}
+
+impl<'a, E> Copy for View<'a, E> {}
+
 impl<'a, E: Copy> Source<E> for View<'a, E> {
+    ghost use Rattle.storage.specs.Views.{unread};
+
     ghost means = { unread };
 
     fn len(&self) -> usize {
-        self.left
-            .min(self.first.len().saturating_add(self.second.len()))
+        self.first.len() + self.second.len()
     }
 
     fn next(&mut self) -> Option<E> {
-        if self.left == 0 {
-            return None;
-        }
-        if let Some((event, rest)) = self.first.split_first() {
-            self.first = rest;
-            self.left -= 1;
+        if let Some(event) = self.first.split_off_first() {
             return Some(*event);
         }
-        let Some((event, rest)) = self.second.split_first() else {
-            return None;
-        };
-        self.second = rest;
-        self.left -= 1;
-        Some(*event)
+        self.second.split_off_first().copied()
     }
 }

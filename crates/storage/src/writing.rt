@@ -16,26 +16,25 @@ use source::drain::Drain;
 use source::fault::Fault;
 use source::single::Single;
 
-// The size that holds what waits and the new events: the smallest of 2, 4, 8 and so on times the old one. None where
-// the slots are too few for it.
-fn grown_size(size: usize, waiting: usize, num: usize, slots: usize) -> Option<usize>
-    requires some { 1 ≤ size }
-    requires within { waiting ≤ slots }
-    requires few { slots ≤ 1048576 }
-    ensures { MatchOption result (slots < size_for size (waiting + num)) (λ s. (s ≡ size_for size (waiting + num)) × (s ≤ slots)) }
-{
-    if num > slots - waiting {
-        return None;
-    }
-    let need = waiting + num;
-    let mut size = size;
-    while size < need {
-        size *= 2;
-    }
-    if size > slots { None } else { Some(size) }
-}
-
+// The slots are the caller's, so each step of a write asks that they are as many as the ring's (`own`): a struct of both
+// would hold two `&mut` for one call, and each clause would read through it.
 impl<E: Copy> RingBuffer<E> {
+    // The size that holds what waits and the new events: the smallest of 2, 4, 8 and so on times the old one. None where
+    // the slots are too few for it.
+    fn grown_size(&self, waiting: usize, num: usize) -> Option<usize>
+        ensures { let size = size_for self.now.last.size (waiting + num) in MatchOption result (self.now.slots < size) (λ s. (s ≡ size) × (s ≤ self.now.slots)) }
+    {
+        let need = waiting.checked_add(num)?;
+        if need > self.slots {
+            return None;
+        }
+        let mut size = self.last.size;
+        while size < need {
+            size *= 2;
+        }
+        if size > self.slots { None } else { Some(size) }
+    }
+
     // Makes the ring larger, with `left` the distance of the nearest reader.
     fn grow(&mut self, slots: &mut [E], by: usize, left: usize)
         requires double { self.old.last.size ≤ by }
@@ -49,15 +48,13 @@ impl<E: Copy> RingBuffer<E> {
         ensures slots { slots.new ≡ grown slots.old ((self.old.last.index + 1) % self.old.last.size) self.old.last.size by }
         ensures ledger { ledger_of self.new slots.new ≡ with_size (ledger_of self.old slots.old) (self.old.last.size + by) }
     {
-        let last = self.last;
-        let generation = self.generation;
-        grow(slots, last.step(), last.size, by);
-        self.meta.shift(last.index, generation, by);
-        self.last.size = last.size + by;
+        grow(slots, self.last.step(), by);
+        self.meta.shift(self.last.index, self.generation, by);
+        self.last = self.last.resized(self.last.size + by);
         self.available = left + by;
     }
 
-    // Draws all events and stores them.
+    // Draws all events, `num` in count, and stores them.
     fn store<S: Source<E>>(&mut self, slots: &mut [E], source: &mut S, num: usize)
         requires own { length slots.old ≡ self.old.slots }
         requires all { num ≡ length (S.Source.means source.old) }
@@ -71,10 +68,9 @@ impl<E: Copy> RingBuffer<E> {
         ensures slots { slots.new ≡ stored slots.old self.old.last.size self.old.last.index (S.Source.means source.old) }
         ensures ledger { ledger_of self.new slots.new ≡ with_joined (ledger_of self.old slots.old) (S.Source.means source.old) }
     {
-        let generation = self.generation;
-        self.last.index = put_all(slots, self.last.index, self.last.size, source);
+        self.generation = self.generation.wrapping_add(1);
+        self.last = put_all(slots, self.last, source);
         self.available -= num;
-        self.generation = generation.wrapping_add(1);
     }
 
     // Ensures that `num` events can be stored, or refuses. Nobody is looked at while `available` covers them.
@@ -101,26 +97,22 @@ impl<E: Copy> RingBuffer<E> {
         ensures { Ensured result self.old self.new slots.old slots.new num }
     {
         let size = self.last.size;
-        let left = match self.nearest() {
-            None => {
-                if num > size {
-                    return Err(Fault::BatchAboveSize);
-                }
-                self.available = size;
-                return Ok(());
+        let Some(nearest) = self.nearest() else {
+            if num > size {
+                return Err(Fault::BatchAboveSize);
             }
-            Some(nearest) => {
-                let reader = self.meta.readers[nearest].unwrap();
-                reader.distance_from(self.last, self.generation)
-            }
+            self.available = size;
+            return Ok(());
         };
+        let reader = self.meta.readers[nearest].unwrap();
+        let left = reader.distance_from(self.last, self.generation);
         if left >= num {
             self.available = left;
             return Ok(());
         }
-        let Some(grown) = grown_size(size, size - left, num, self.slots) else {
-            return Err(Fault::GrowthAboveSlots);
-        };
+        let grown = self
+            .grown_size(size - left, num)
+            .ok_or(Fault::GrowthAboveSlots)?;
         self.grow(slots, grown - size, left);
         Ok(())
     }

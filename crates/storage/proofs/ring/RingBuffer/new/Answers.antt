@@ -1,5 +1,4 @@
-use Rattle.std.proofs.Common.{◌≡◌, ◌-◌, refl, ap, arith}
-use Rattle.storage.specs.declared.circular.CircularIndex.{CircularIndex}
+use Rattle.std.proofs.Common.{refl, arith}
 use Rattle.storage.proofs.Each.{facts, kept_new}
 use Rattle.storage.proofs.Handing.{new_ledger}
 use Rattle.storage.proofs.ring.RingBuffer.new.Goals as goal
@@ -7,9 +6,7 @@ use Rattle.storage.proofs.ring.RingBuffer.new.Goals as goal
 pub invariant_of-result : goal.invariant_of-result
 invariant_of-result g c =
     let last = c.at_end.result in
-    let size : last.size ≡ c.args.grant.size = ap (λ (i : CircularIndex). i.size) c.at_end.ensures in
-    let index : last.index ≡ c.args.grant.size - 1 = ap (λ (i : CircularIndex). i.index) c.at_end.ensures in
-    facts c.args.grant.size last.index last.size c.args.grant.slots 0 c.new.result (omega arith) (omega arith) (omega arith) (omega arith) (omega arith)
+    facts c.args.grant.size last.index last.size c.args.grant.slots 0 c.new.result (omega arith) (omega arith) (omega arith) (omega arith)
     (kept_new last.index last.size 0 c.args.grant.size c.new.result c.new.ensures)
 
 pub returns : goal.returns
@@ -17,8 +14,9 @@ returns g c =
     let last = c.at_end.result in
     let grant = c.args.grant in
     record {
-      ledger = λ slots. new_ledger grant.instance grant.slots slots last.index last.size 0 grant.size c.new.result (ap (λ (i : CircularIndex). i.size) c.at_end.ensures) c.new.ensures;
+      ledger = λ slots. new_ledger grant.instance grant.slots slots last.index last.size 0 grant.size c.new.result c.at_end.ensures.size c.new.ensures;
       available = refl;
-      last = c.at_end.ensures;
+      last = c.at_end.ensures.index;
+      size = c.at_end.ensures.size;
       generation = refl;
     }

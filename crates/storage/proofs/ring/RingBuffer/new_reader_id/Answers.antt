@@ -11,7 +11,7 @@ returns-then-is_full g c =
     let both = and_parts _ _ (sym c.if-is_full.ensures) in
     record {
       ledger = λ slots.
-          register-none r.instance r.slots slots r.last.index r.last.size r.generation r.within r.meta r.meta r.whole
+          register-none r.instance r.slots slots r.last.index r.last.size r.generation r.last.within r.meta r.meta r.whole
           (eqb-true r.meta.freed 0 both.0, eqb-true r.meta.used most both.1, refl);
       rest = search rules;
       refused = refl;
@@ -25,7 +25,7 @@ returns g c =
     let r = c.args.self.now in
     record {
       ledger = λ slots.
-          register-some r.instance r.slots slots r.last.index r.last.size r.generation r.within r.meta c.alloc.new.self c.alloc.result r.whole c.alloc.ensures;
+          register-some r.instance r.slots slots r.last.index r.last.size r.generation r.last.within r.meta c.alloc.new.self c.alloc.result r.whole c.alloc.ensures;
       rest = search rules;
       refused = tt;
     }

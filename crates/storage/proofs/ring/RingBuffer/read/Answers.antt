@@ -1,12 +1,10 @@
-use Rattle.std.proofs.Common.{◌≡◌, ◌+◌, ◌%◌, Some, None, sym, refl, ap, ◌∙◌, arith, rules}
+use Rattle.std.proofs.Common.{◌≡◌, Some, None, sym, refl, ◌∙◌, arith, rules}
 use Rattle.std.proofs.lemmas.Result.{err_from_is_err_and}
 use Rattle.source.specs.declared.fault.Fault.TheVariants.{NotOpen}
-use Rattle.storage.specs.declared.circular.CircularIndex.{CircularIndex}
 use Rattle.storage.specs.Registry.{entry, Shut}
-use Rattle.storage.specs.Calls.{unread_place}
-use Rattle.storage.specs.Views.{unread}
+use Rattle.storage.specs.Calls.{unread_place, unread_count}
 use Rattle.storage.proofs.Each.{with_advanced}
-use Rattle.storage.proofs.Handing.{both_runs, read-hands, read-refused, same_runs}
+use Rattle.storage.proofs.Handing.{read-hands, read-refused, same_runs}
 use Rattle.storage.proofs.ring.RingBuffer.read.Goals as goal
 
 pub returns-in_err-reader : goal.returns-in_err-reader
@@ -34,13 +32,13 @@ returns g c =
     let slots = c.args.slots.now in
     let reader = c.in_ok-reader.reader in
     let here : entry r.meta.readers c.args.number ≡ Some reader = sym c.reader.ensures ∙ c.in_ok-reader.ensures.ok_part in
-    let view = c.new-2.ensures in
-    let at : c.step-from.result ≡ unread_place r reader = c.step-from.ensures.value ∙ ap (λ (i : CircularIndex). (i.index + 1) % i.size) c.new.ensures in
-    let many = c.unread_from-count.ensures in
-    let list = view.means ∙ ap (λ q. both_runs r slots q c.unread_from-count.result) at ∙ ap (λ k. both_runs r slots (unread_place r reader) k) many in
+    let at : c.step-from.result.index ≡ unread_place r reader = simp (c.new.ensures.index, c.new.ensures.size) at c.step-from.ensures.index in
+    let round : c.step-from.result.size ≡ r.last.size = c.step-from.ensures.size ∙ c.new.ensures.size in
+    let many : c.unread_from-count.result ≡ unread_count r reader = c.unread_from-count.ensures in
+    let runs = same_runs slots _ _ _ _ _ _ c.new-2.result at many round c.new-2.ensures in
     record {
-      ledger = read-hands r slots c.args.number reader c.advance.new.self (unread c.new-2.result) (omega arith) here c.advance.ensures list;
+      ledger = read-hands r slots c.args.number reader c.advance.new.self c.new-2.result (omega arith) here c.advance.ensures runs;
       rest = search rules;
       refused = tt;
-      runs = (reader, here, same_runs slots _ _ _ _ r.last.size c.new-2.result at many (record { first = view.first; second = view.second; whole = view.whole; left = view.left }));
+      runs = (reader, here, runs);
     }

@@ -7,8 +7,8 @@ pub invariant_of-self : goal.invariant_of-self
 invariant_of-self g c =
     let r = c.args.self.now in
     let fits : r.generation < 2 ^ 64 = omega arith in
-    let value = c.put_all-self.ensures.value ∙ ap (λ n. last_after r.last.size r.last.index n) (sym c.requires.all) in
-    stored-facts r fits c.put_all-self.result c.args.num value c.requires.some c.requires.enough
+    let value = c.put_all-self.ensures.index ∙ ap (λ n. last_after r.last.size r.last.index n) (sym c.requires.all) in
+    stored-facts r fits c.put_all-self.result c.args.num value c.put_all-self.ensures.size c.requires.some c.requires.enough
 
 pub returns : goal.returns
 returns g c =
@@ -23,8 +23,8 @@ returns g c =
       available = refl;
       emptied = done.emptied;
       drawn = done.drawn;
-      last = done.value ∙ ap (λ n. last_after r.last.size r.last.index n) (sym c.requires.all);
+      last = done.index ∙ ap (λ n. last_after r.last.size r.last.index n) (sym c.requires.all);
       generation = refl;
       slots = done.after;
-      ledger = stored-ledger r fits c.args.slots.now c.put_all-self.new.slots c.put_all-self.result events done.after done.value some enough room;
+      ledger = stored-ledger r fits c.args.slots.now c.put_all-self.new.slots c.put_all-self.result events done.after done.index done.size some enough room;
     }
