@@ -1,10 +1,7 @@
 -- Who is open, and reading, from the table of readers to the ledger.
-use Rattle.std.proofs.Common.{◌≡◌, ℕ, zero, suc, ◌+◌, ◌-◌, ◌%◌, ◌<◌, ◌≤◌, min, Bool, true, false, List, ◌∷◌, ◌++◌, map, length, get_or, replicate, is_some, Some, None, Option, ◌↔◌, sym, refl, ap, ◌∙◌, arith}
+use Rattle.std.proofs.Common.{◌≡◌, ℕ, ◌+◌, ◌-◌, ◌%◌, ◌<◌, ◌≤◌, min, Bool, true, false, List, ◌++◌, map, length, is_some, Some, Option, ◌↔◌, sym, refl, ap, ◌∙◌, arith}
 use Rattle.std.specs.Prelude.{IsTrue}
-use Rattle.std.proofs.lemmas.Bool.{both_ways, eq-eqb}
-use Rattle.source.specs.Faults.{number_of}
-use Rattle.source.specs.declared.fault.Fault.{Fault}
-use Rattle.source.specs.declared.fault.Fault.TheVariants.{NotOpen}
+use Rattle.std.proofs.lemmas.Bool.{both_ways}
 use Rattle.ledger.specs.Ledger as ledger
 use Rattle.ledger.specs.Ledger.{Ledger, Answer, outcome}
 use Rattle.ledger.proofs.Refusals.{suffices}
@@ -12,8 +9,8 @@ use Rattle.storage.specs.declared.reader.Reader.{Reader}
 use Rattle.storage.specs.declared.reader.ReaderMeta.{ReaderMeta}
 use Rattle.storage.specs.declared.ring.RingBuffer.{RingBuffer}
 use Rattle.storage.specs.declared.view.View.{View}
-use Rattle.storage.specs.Registry.{entry, Live, Shut, distance, unread}
-use Rattle.storage.specs.Meta.{most, no_readers, advanced}
+use Rattle.storage.specs.Registry.{entry, Live, distance, unread}
+use Rattle.storage.specs.Meta.{advanced}
 use Rattle.storage.specs.Slots.{part, waiting_in}
 use Rattle.storage.specs.Ledgers.{reader_of, ledger_with, ledger_of}
 use Rattle.storage.specs.Calls.{unread_place, unread_count, Runs}
@@ -21,15 +18,10 @@ use Rattle.storage.specs.Views.{unread as handed-events}
 use Rattle.storage.proofs.Distances.{distance-le, unread-distance}
 use Rattle.storage.proofs.Entries.{not_open}
 use Rattle.storage.proofs.Lifts.{reader_at_of, open_at_of, none_open_of, some_open_of}
-use Rattle.storage.proofs.Numbering.{accepted-is, refused-is, set-fresh}
+use Rattle.storage.proofs.Numbering.{accepted-is, set-fresh}
 use Rattle.storage.proofs.Waiting.{runs_of_reader}
 
 module _ {E : Type 0} (slots : List E) (last size generation : ℕ) where
-  -- before anyone registered every number is shut
-  pub all_shut : (n : ℕ) → map (reader_of slots last size generation) (replicate n None) ≡ replicate n ledger.shut
-  all_shut zero = refl
-  all_shut (suc n) = ap (λ rs. ledger.shut ∷ rs) (all_shut n)
-
   -- the table and the ledger agree on whether somebody is open
   pub any_open_is : (rs : List (Option Reader)) (b : Bool) → (IsTrue b ↔ ((k : ℕ) × Live rs k)) → b ≡ ledger.any_open (map (reader_of slots last size generation) rs)
   any_open_is rs true d = let p = d.0 refl in sym (some_open_of slots last size generation rs p.0 p.1)
@@ -64,18 +56,6 @@ module _ {E : Type 0} (instance count : ℕ) (slots : List E) (last size generat
       same_answer (waiting_in slots last size generation r) (ledger.waiting_for (before g) n) (before (advanced g n last generation)) (ledger.after_read (before g) n) (sym list) left
       ∙ accepted-is (before g) (ledger.read other instance n) (suffices (before g) (ledger.read other instance n) (same, refl, live))
 
-  -- a number that is not open
-  pub read-shut : (g : ReaderMeta) (other n : ℕ) → other ≡ count → Shut g.readers n
-      → (ledger.refused 7, before g) ≡ outcome (before g) (ledger.read other instance n)
-  read-shut g other n same dead =
-      let gone : ledger.is_open (get_or (map (reader_of slots last size generation) g.readers) n ledger.shut) ≡ false = open_at_of slots last size generation g.readers n ∙ dead in
-      refused-is (before g) (ledger.read other instance n) 7 (rw (eq-eqb other count same, eq-eqb instance instance refl, gone))
-
--- a ring just made
-pub new_ledger : {E : Type 0} (instance count : ℕ) (slots : List E) (last size generation asked : ℕ) (g : ReaderMeta) → size ≡ asked → g ≡ no_readers
-    → ledger_with instance count slots last size generation g ≡ ledger.fresh instance asked count
-new_ledger instance count slots last size generation asked g e none = rw (none, all_shut slots last size generation most, e)
-
 module _ {E : Type 0} (r : RingBuffer E) (slots : List E) where
   -- a read that hands out both runs and leaves the reader with nothing to read
   pub read-hands : (n : ℕ) (reader : Reader) (g : ReaderMeta) (v : View E) → length slots ≡ r.slots → entry r.meta.readers n ≡ Some reader
@@ -89,11 +69,6 @@ module _ {E : Type 0} (r : RingBuffer E) (slots : List E) where
       ap (λ ys. (ledger.handed ys, ledger_with r.instance r.slots slots r.last.index r.last.size r.generation g)) list
       ∙ ap (λ (m : ReaderMeta). (ledger.handed (waiting_in slots r.last.index r.last.size r.generation reader), ledger_with r.instance r.slots slots r.last.index r.last.size r.generation m)) is
       ∙ read-open r.instance r.slots slots r.last.index r.last.size r.generation r.last.within r.meta (length slots) n reader same at
-
-  -- a read of a number that is not open
-  pub read-refused : (n : ℕ) (fault : Fault) → length slots ≡ r.slots → fault ≡ NotOpen → Shut r.meta.readers n
-      → (ledger.refused (number_of fault), ledger_of r slots) ≡ outcome (ledger_of r slots) (ledger.read (length slots) r.instance n)
-  read-refused n fault same is dead = rw is (read-shut r.instance r.slots slots r.last.index r.last.size r.generation r.last.within r.meta (length slots) n same dead)
 
 -- the same view, of the same figures
 pub same_runs : {E : Type 0} (slots : List E) (from at count many size round : ℕ) (v : View E) → from ≡ at → count ≡ many → size ≡ round → Runs slots from count size v → Runs slots at many round v

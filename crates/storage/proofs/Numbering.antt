@@ -1,13 +1,13 @@
 -- Registering and closing, from the table of readers to the ledger.
-use Rattle.std.proofs.Common.{◌≡◌, ℕ, ◌+◌, ◌-◌, ◌<◌, ◌≤◌, false, ◌≢◌, List, [], ◌∷◌, map, length, get_or, set, Some, None, Option, sym, refl, ap, ◌∙◌, ⊎_elim, arith, length-append, length-drop, length-take}
+use Rattle.std.proofs.Common.{◌≡◌, ℕ, ◌+◌, ◌-◌, ◌<◌, ◌≤◌, ◌≢◌, List, [], ◌∷◌, map, length, set, Some, None, Option, sym, refl, ap, ◌∙◌, ⊎_elim, arith, length-append, length-drop, length-take}
 use Rattle.std.proofs.lemmas.List.{map-set, drop_all}
-use Rattle.std.proofs.lemmas.Bool.{eq-eqb, le-leb, cases_eq}
+use Rattle.std.proofs.lemmas.Bool.{le-leb, cases_eq}
 use Rattle.ledger.specs.Ledger as ledger
 use Rattle.ledger.specs.Ledger.{Ledger, Answer, Call, outcome, refusal, taken, decided}
 use Rattle.ledger.proofs.Refusals.{suffices}
 use Rattle.storage.specs.declared.reader.Reader.{Reader}
 use Rattle.storage.specs.declared.reader.ReaderMeta.{ReaderMeta}
-use Rattle.storage.specs.Registry.{Live, Shut}
+use Rattle.storage.specs.Registry.{Live}
 use Rattle.storage.specs.Meta.{most, lives, fresh, Alloc, opened, removed, Whole, Stack}
 use Rattle.storage.specs.Slots.{waiting_in, recent}
 use Rattle.storage.specs.Ledgers.{stack_of, reader_of, ledger_with}
@@ -89,9 +89,3 @@ module _ {E : Type 0} (instance count : ℕ) (slots : List E) (last size generat
       (same_after (of_all (removed g n).readers) (set (of_all g.readers) n ledger.shut) (stack_of (set g.free g.freed n) (g.freed + 1)) (n ∷ stack_of g.free g.freed) g.used g.used
       (map-set (reader_of slots last size generation) g.readers n None) (stack-pushed g.free n g.freed room) refl)
       ∙ accepted-is (before g) (ledger.close instance n) (suffices (before g) (ledger.close instance n) (refl, live))
-
-  pub close-shut : (g : ReaderMeta) (n : ℕ) → Shut g.readers n
-      → (ledger.refused 7, before g) ≡ outcome (before g) (ledger.close instance n)
-  close-shut g n dead =
-      let gone : ledger.is_open (get_or (of_all g.readers) n ledger.shut) ≡ false = open_at_of slots last size generation g.readers n ∙ dead in
-      refused-is (before g) (ledger.close instance n) 7 (rw (eq-eqb instance instance refl, gone))
