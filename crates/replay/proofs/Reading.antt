@@ -1,5 +1,5 @@
 -- A read hands out no more events than there are slots.
-use Rattle.std.proofs.Common.{◌≡◌, ℕ, ◌+◌, ◌-◌, ◌<◌, ◌≤◌, Bool, true, false, cond, eqb, List, ◌++◌, length, get_or, Some, Option, sym, ap, ◌∙◌, mod-lt, arith, length-append}
+use Rattle.std.proofs.Common.{◌≡◌, ℕ, ◌+◌, ◌-◌, ◌<◌, ◌≤◌, Bool, true, false, cond, eqb, List, ◌++◌, length, Some, Option, sym, ap, ◌∙◌, mod-lt, arith, length-append}
 use Rattle.ledger.specs.Ledger.{Ledger, Answer, outcome}
 use Rattle.ledger.specs.Ledger.Call.{read}
 use Rattle.ledger.specs.Ledger.Answer.{handed}
@@ -9,7 +9,7 @@ use Rattle.storage.specs.declared.ring.RingBuffer.{RingBuffer}
 use Rattle.storage.specs.declared.view.View.{View}
 use Rattle.storage.specs.Calls.{unread_place, unread_count, Runs}
 use Rattle.storage.specs.Ledgers.{ledger_of}
-use Rattle.storage.specs.Registry.{blank, gap, unread as unread-events}
+use Rattle.storage.specs.Registry.{gap, unread as unread-events}
 use Rattle.storage.specs.Views.{unread}
 
 -- one of three figures, each of which has the bound
@@ -33,12 +33,12 @@ module _ {E : Type 0} where
       (λ k e p. let z : ◌≡◌ {A = ℕ} 0 1 = cc in absurd (omega arith))
       (λ e p. (meets l (read count instance n) e).0)
 
-  pub handed-few : (r t : RingBuffer E) (slots : List E) (v : View E) (instance n : ℕ)
+  pub handed-few : (r t : RingBuffer E) (slots : List E) (v : View E) (instance n : ℕ) (reader : Reader)
       → (handed (unread v), ledger_of t slots) ≡ outcome (ledger_of r slots) (read (length slots) instance n)
-      → Runs slots (unread_place r n) (unread_count r n) r.last.size v → length (unread v) ≤ length slots
-  handed-few r t slots v instance n told runs =
+      → Runs slots (unread_place r reader) (unread_count r reader) r.last.size v → length (unread v) ≤ length slots
+  handed-few r t slots v instance n reader told runs =
       let own : length slots ≡ r.slots = own_slots (ledger_of r slots) (length slots) instance n (unread v) (sym (ap (λ x. x.0) told)) in
-      let few = unread-few r.last.index r.last.size r.generation (get_or r.meta.readers n blank) (omega (arith, r.small)) in
+      let few = unread-few r.last.index r.last.size r.generation reader (omega (arith, r.small)) in
       let both = length-append v.first.now v.second.now in
       omega (arith, runs.left, r.room)
 

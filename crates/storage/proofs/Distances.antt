@@ -1,5 +1,5 @@
 -- The distance of one reader, through growth and storing. Its place and the ring's last place are below size.
-use Rattle.std.proofs.Common.{◌≡◌, ℕ, ◌+◌, ◌-◌, ◌%◌, ◌<◌, ◌≤◌, true, ◌≢◌, sym, refl, ap, ◌∙◌, subst, ⊎_elim, mod-eq_of_lt, arith}
+use Rattle.std.proofs.Common.{◌≡◌, ℕ, ◌+◌, ◌-◌, ◌%◌, ◌<◌, ◌≤◌, ◌≢◌, sym, refl, ap, ◌∙◌, subst, ⊎_elim, mod-eq_of_lt, arith}
 use native.Mathlib.Nat.{mod-eq-sub-mod}
 use Rattle.std.proofs.lemmas.Bool.{cases_lt, cases_eq, cases_order, eq-eqb, ne_eqb}
 use Rattle.std.proofs.lemmas.Bool.Decides.{nat_tests}
@@ -99,11 +99,11 @@ distance-fresh last size generation l = distance_read last size generation (fres
 
 module _ (last size generation g : ℕ) (r : Reader) where
   -- who lies above last is raised, and so is who has a full lap waiting
-  grown-above : r.live ≡ true → last < r.place → shifted last generation g r ≡ raised g r
-  grown-above lv lt = moved last generation g r lv (grind (arith, nat_tests))
+  grown-above : last < r.place → shifted last generation g r ≡ raised g r
+  grown-above lt = moved last generation g r (grind (arith, nat_tests))
 
-  grown-full : r.live ≡ true → r.place ≡ last → r.generation ≢ generation → shifted last generation g r ≡ raised g r
-  grown-full lv same ne = moved last generation g r lv (grind (arith, nat_tests))
+  grown-full : r.place ≡ last → r.generation ≢ generation → shifted last generation g r ≡ raised g r
+  grown-full same ne = moved last generation g r (grind (arith, nat_tests))
 
   grown-below : r.place < last → shifted last generation g r ≡ r
   grown-below lt = stays-below last generation g r (grind (arith, nat_tests))
@@ -112,12 +112,12 @@ module _ (last size generation g : ℕ) (r : Reader) where
   grown-read same e = stays-below last generation g r (grind (arith, nat_tests))
 
   -- each distance rises by g
-  pub distance-grown : last < size → r.place < size → 1 ≤ g → r.live ≡ true
+  pub distance-grown : last < size → r.place < size → 1 ≤ g
       → distance last (size + g) generation (shifted last generation g r) ≡ distance last size generation r + g
-  distance-grown l p more lv = by_place last size generation r (λ d. distance last (size + g) generation (shifted last generation g r) ≡ d + g) l p
+  distance-grown l p more = by_place last size generation r (λ d. distance last (size + g) generation (shifted last generation g r) ≡ d + g) l p
       (λ same e. rw (grown-read same e) (distance_read last (size + g) generation r same (omega arith) e))
-      (λ same ne. rw (grown-full lv same ne) (distance-above last (size + g) generation (raised g r) (omega arith) (omega arith) ∙ omega arith))
-      (λ lt. rw (grown-above lv lt) (distance-above last (size + g) generation (raised g r) (omega arith) (omega arith) ∙ omega arith))
+      (λ same ne. rw (grown-full same ne) (distance-above last (size + g) generation (raised g r) (omega arith) (omega arith) ∙ omega arith))
+      (λ lt. rw (grown-above lt) (distance-above last (size + g) generation (raised g r) (omega arith) (omega arith) ∙ omega arith))
       (λ lt. rw (grown-below lt) (distance-below last (size + g) generation r lt (omega arith) ∙ omega arith))
 
   -- each place stays below the new size

@@ -1,28 +1,15 @@
 -- What a ring keeps of each open reader, through registering, reading and closing.
-use Rattle.std.proofs.Common.{◌≡◌, ℕ, zero, suc, ◌-◌, ◌^◌, ◌<◌, ◌≤◌, true, false, List, [], ◌∷◌, get_or, set, Some, sym, refl, ap, subst, arith}
-use Rattle.std.proofs.lemmas.Bool.{both_ways}
+use Rattle.std.proofs.Common.{◌≡◌, ℕ, ◌-◌, ◌^◌, ◌<◌, ◌≤◌, List, set, Some, None, Option, sym, refl, ap, subst, arith}
 use Rattle.storage.specs.declared.reader.Reader.{Reader}
 use Rattle.storage.specs.declared.reader.ReaderMeta.{ReaderMeta}
 use Rattle.storage.specs.declared.ring.RingBuffer.{RingBuffer}
-use Rattle.storage.specs.Kept.{lag, Ahead, Bounded, Lags, Level}
-use Rattle.storage.specs.Meta.{fresh, closed, Places, Whole, Stack, Apart, Sound, Alloc, no_readers, removed, advanced}
-use Rattle.storage.specs.Registry.{blank, distance, Live}
+use Rattle.storage.specs.Kept.{lag, Ahead, Places, Bounded, Lags, Level}
+use Rattle.storage.specs.Meta.{most, fresh, Whole, Stack, Apart, Sound, Alloc, no_readers, removed, advanced}
+use Rattle.storage.specs.Registry.{distance, Live, Each}
 use Rattle.storage.proofs.Distances.{distance-fresh}
+use Rattle.storage.proofs.Entries.{clash, each_set, shut-blank}
 use Rattle.storage.proofs.Generations.{lag-none}
 use Rattle.storage.proofs.Keeps.{new_sound, alloc_sound, removed-sound, advanced-sound}
-
--- every open reader has P
-abbrev pub Each : (Reader → Type 0) → List Reader → Type 0
-Each P rs = (k : ℕ) → Live rs k → P (get_or rs k blank)
-
--- an entry is changed to one that is closed, or has P
-pub each_set : (P : Reader → Type 0) (rs : List Reader) (i : ℕ) (e : Reader) → (e.live ≡ true → P e) → Each P rs → Each P (set rs i e)
-each_set P [] zero e p s k lv = s k lv
-each_set P [] (suc i) e p s k lv = s k lv
-each_set P (r ∷ rs) zero e p s zero lv = p lv
-each_set P (r ∷ rs) zero e p s (suc k) lv = s (suc k) lv
-each_set P (r ∷ rs) (suc i) e p s zero lv = s zero lv
-each_set P (r ∷ rs) (suc i) e p s (suc k) lv = each_set P rs i e p (λ j. s (suc j)) k lv
 
 module _ (last size generation available : ℕ) where
   -- what a ring keeps of one open reader
@@ -54,24 +41,22 @@ module _ (last size generation available : ℕ) where
         apart : Apart g;
       }
 
-  pub kept : (g : ReaderMeta) → Each Fine g.readers → Sound g size → Kept g
+  pub kept : (g : ReaderMeta) → Each Fine g.readers → Sound g → Kept g
   kept g fine sound =
       record {
-        ahead = λ k lv. (fine k lv).ahead;
-        places = λ k lv. (fine k lv).place;
-        bounded = λ k lv. (fine k lv).bounded;
-        lags = λ k lv. (fine k lv).lags;
-        level = λ k lv. (fine k lv).level;
-        whole = sound.1;
-        stack = sound.2;
-        apart = sound.3;
+        ahead = λ k r is. (fine k r is).ahead;
+        places = λ k r is. (fine k r is).place;
+        bounded = λ k r is. (fine k r is).bounded;
+        lags = λ k r is. (fine k r is).lags;
+        level = λ k r is. (fine k r is).level;
+        whole = sound.0;
+        stack = sound.1;
+        apart = sound.2;
       }
 
   -- before anyone registered
   pub kept_new : (g : ReaderMeta) → g ≡ no_readers → Kept g
-  kept_new g same =
-      let sound = new_sound size in
-      subst (λ (x : ReaderMeta). Kept x) (sym same) (kept no_readers (λ k lv. absurd (omega (arith, sound.1.2 k lv))) sound)
+  kept_new g same = subst (λ (x : ReaderMeta). Kept x) (sym same) (kept no_readers (λ k r is. clash _ r (shut-blank most k) is) new_sound)
 
 module _ (available last size slots generation : ℕ) (g : ReaderMeta) where
   -- all facts of a ring, under the names in its record
@@ -121,36 +106,38 @@ module _ {E : Type 0} (r : RingBuffer E) where
   With g = Facts r.available last_of size_of r.slots r.generation g
 
   pub fine_of : Each (Fine last_of size_of r.generation r.available) r.meta.readers
-  fine_of k lv = record { ahead = r.ahead k lv; place = r.places k lv; bounded = r.bounded k lv; lags = r.lags k lv; level = r.level k lv }
+  fine_of k e is = record { ahead = r.ahead k e is; place = r.places k e is; bounded = r.bounded k e is; lags = r.lags k e is; level = r.level k e is }
 
-  pub sound-of : Sound r.meta size_of
-  sound-of = (r.places, r.whole, r.stack, r.apart)
+  pub sound-of : Sound r.meta
+  sound-of = (r.whole, r.stack, r.apart)
 
   -- one entry is changed to one that is closed, or fine, and the table is sound
-  with_set : (g : ReaderMeta) (n : ℕ) (e : Reader) → g.readers ≡ set r.meta.readers n e
-      → (e.live ≡ true → Fine last_of size_of r.generation r.available e) → Sound g size_of → With g
-  with_set g n e same p sound =
-      let fine = each_set (Fine last_of size_of r.generation r.available) r.meta.readers n e p fine_of in
-      let all : Each (Fine last_of size_of r.generation r.available) g.readers = subst (λ (rs : List Reader). Each (Fine last_of size_of r.generation r.available) rs) (sym same) fine in
+  with_set : (g : ReaderMeta) (n : ℕ) (o : Option Reader) → g.readers ≡ set r.meta.readers n o
+      → ((e : Reader) → o ≡ Some e → Fine last_of size_of r.generation r.available e) → Sound g → With g
+  with_set g n o same p sound =
+      let P : Reader → Type 0 = Fine last_of size_of r.generation r.available in
+      let all : Each P g.readers = subst (λ (rs : List (Option Reader)). Each P rs) (sym same) (each_set P r.meta.readers n o p fine_of) in
       facts r.available last_of size_of r.slots r.generation g r.small r.room r.few r.spare (kept last_of size_of r.generation r.available g all sound)
+
+  -- the same, where the entry has just registered or read
+  with-fresh : (g : ReaderMeta) (n : ℕ) → r.generation < 2 ^ 64 → g.readers ≡ set r.meta.readers n (Some (fresh last_of r.generation)) → Sound g → With g
+  with-fresh g n fits same sound =
+      with_set g n (Some (fresh last_of r.generation)) same
+      (λ e is. let here : fresh last_of r.generation ≡ e = cc in subst (λ (x : Reader). Fine last_of size_of r.generation r.available x) here (fresh-fine last_of size_of r.generation r.available r.last.within r.spare fits)) sound
 
   -- a registration
   pub with_alloc : (g : ReaderMeta) (n : ℕ) → r.generation < 2 ^ 64 → Alloc r.meta g last_of r.generation (Some n) → With g
   with_alloc g n fits al =
-      with_set g n (fresh last_of r.generation) (ap (λ (x : ReaderMeta). x.readers) al.2)
-      (λ _. fresh-fine last_of size_of r.generation r.available r.last.within r.spare fits)
-      (alloc_sound r.meta g last_of r.generation size_of (Some n) al r.last.within sound-of)
+      with-fresh g n fits (ap (λ (x : ReaderMeta). x.readers) al.2) (alloc_sound r.meta g last_of r.generation (Some n) al sound-of)
 
   -- a read
   pub with_advanced : (g : ReaderMeta) (n : ℕ) → r.generation < 2 ^ 64 → Live r.meta.readers n → g ≡ advanced r.meta n last_of r.generation → With g
   with_advanced g n fits lv same =
-      with_set g n (fresh last_of r.generation) (ap (λ (x : ReaderMeta). x.readers) same)
-      (λ _. fresh-fine last_of size_of r.generation r.available r.last.within r.spare fits)
-      (subst (λ (x : ReaderMeta). Sound x size_of) (sym same) (advanced-sound r.meta n last_of r.generation size_of r.last.within lv sound-of))
+      with-fresh g n fits (ap (λ (x : ReaderMeta). x.readers) same)
+      (subst (λ (x : ReaderMeta). Sound x) (sym same) (advanced-sound r.meta n last_of r.generation lv sound-of))
 
   -- a close
   pub with_removed : (g : ReaderMeta) (n : ℕ) → Live r.meta.readers n → g ≡ removed r.meta n → With g
   with_removed g n lv same =
-      with_set g n (closed (get_or r.meta.readers n blank)) (ap (λ (x : ReaderMeta). x.readers) same)
-      (λ l. absurd (both_ways false refl l))
-      (subst (λ (x : ReaderMeta). Sound x size_of) (sym same) (removed-sound r.meta n size_of lv sound-of))
+      with_set g n None (ap (λ (x : ReaderMeta). x.readers) same) (λ e is. clash None e refl is)
+      (subst (λ (x : ReaderMeta). Sound x) (sym same) (removed-sound r.meta n lv sound-of))

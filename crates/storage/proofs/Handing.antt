@@ -1,9 +1,7 @@
 -- Who is open, and reading, from the table of readers to the ledger.
-use Rattle.std.proofs.Common.{◌≡◌, ℕ, zero, suc, ◌+◌, ◌-◌, ◌%◌, ◌<◌, ◌≤◌, min, Bool, true, false, List, [], ◌∷◌, ◌++◌, map, length, get_or, replicate, Decides, sym, refl, ap, ◌∙◌, ⊎_elim, arith}
-use Rattle.std.proofs.lemmas.Bool.{both_ways, cases_Bool, or_left, or_right, eq-eqb}
-use Rattle.source.specs.Faults.{number_of}
-use Rattle.source.specs.declared.fault.Fault.{Fault}
-use Rattle.source.specs.declared.fault.Fault.TheVariants.{NotOpen}
+use Rattle.std.proofs.Common.{◌≡◌, ℕ, ◌+◌, ◌-◌, ◌%◌, ◌<◌, ◌≤◌, min, Bool, true, false, List, ◌++◌, map, length, is_some, Some, Option, ◌↔◌, sym, refl, ap, ◌∙◌, arith}
+use Rattle.std.specs.Prelude.{IsTrue}
+use Rattle.std.proofs.lemmas.Bool.{both_ways}
 use Rattle.ledger.specs.Ledger as ledger
 use Rattle.ledger.specs.Ledger.{Ledger, Answer, outcome}
 use Rattle.ledger.proofs.Refusals.{suffices}
@@ -11,35 +9,23 @@ use Rattle.storage.specs.declared.reader.Reader.{Reader}
 use Rattle.storage.specs.declared.reader.ReaderMeta.{ReaderMeta}
 use Rattle.storage.specs.declared.ring.RingBuffer.{RingBuffer}
 use Rattle.storage.specs.declared.view.View.{View}
-use Rattle.storage.specs.Registry.{blank, Live, distance, unread}
-use Rattle.storage.specs.Meta.{most, no_readers, advanced}
+use Rattle.storage.specs.Registry.{entry, Live, distance, unread}
+use Rattle.storage.specs.Meta.{advanced}
 use Rattle.storage.specs.Slots.{part, waiting_in}
 use Rattle.storage.specs.Ledgers.{reader_of, ledger_with, ledger_of}
 use Rattle.storage.specs.Calls.{unread_place, unread_count, Runs}
 use Rattle.storage.specs.Views.{unread as handed-events}
 use Rattle.storage.proofs.Distances.{distance-le, unread-distance}
-use Rattle.storage.proofs.Lifts.{is-open_of, of_live, reader_at_of, open_at_of, none_open_of}
-use Rattle.storage.proofs.Numbering.{accepted-is, refused-is, set-fresh}
+use Rattle.storage.proofs.Entries.{not_open}
+use Rattle.storage.proofs.Lifts.{reader_at_of, open_at_of, none_open_of, some_open_of}
+use Rattle.storage.proofs.Numbering.{accepted-is, set-fresh}
 use Rattle.storage.proofs.Waiting.{runs_of_reader}
 
 module _ {E : Type 0} (slots : List E) (last size generation : ℕ) where
-  -- before anyone registered every number is shut
-  pub all_shut : (n : ℕ) → map (reader_of slots last size generation) (replicate n blank) ≡ replicate n ledger.shut
-  all_shut zero = refl
-  all_shut (suc n) = ap (λ rs. ledger.shut ∷ rs) (all_shut n)
-
-  -- somebody is open
-  some_open_of : (rs : List Reader) (k : ℕ) → Live rs k → ledger.any_open (map (reader_of slots last size generation) rs) ≡ true
-  some_open_of [] k lv = absurd (both_ways false refl lv)
-  some_open_of (r ∷ rs) zero lv = or_left _ _ (is-open_of slots last size generation r ∙ lv)
-  some_open_of (r ∷ rs) (suc k) lv = or_right _ _ (some_open_of rs k lv)
-
   -- the table and the ledger agree on whether somebody is open
-  pub any_open_is : (rs : List Reader) (b : Bool) → Decides b ((k : ℕ) × Live rs k) → b ≡ ledger.any_open (map (reader_of slots last size generation) rs)
-  any_open_is rs true d = let p = d.0 refl in sym (some_open_of rs p.0 p.1)
-  any_open_is rs false d =
-      sym (none_open_of slots last size generation rs
-      (λ k. ⊎_elim (λ (lv : Live rs k). absurd (both_ways false refl (d.1 (k, lv)))) (λ dead. dead) (cases_Bool (get_or rs k blank).live)))
+  pub any_open_is : (rs : List (Option Reader)) (b : Bool) → (IsTrue b ↔ ((k : ℕ) × Live rs k)) → b ≡ ledger.any_open (map (reader_of slots last size generation) rs)
+  any_open_is rs true d = let p = d.0 refl in sym (some_open_of slots last size generation rs p.0 p.1)
+  any_open_is rs false d = sym (none_open_of slots last size generation rs (λ k. not_open (entry rs k) (λ lv. absurd (both_ways false refl (d.1 (k, lv))))))
 
   -- the two runs from the place after the reader's, as long as its count of unread events, are what waits for it
   pub runs_unread : (r : Reader) (q : ℕ) → size ≤ length slots → last < size → r.place < size → (r.generation ≡ generation → r.place ≡ last)
@@ -60,47 +46,29 @@ module _ {E : Type 0} (instance count : ℕ) (slots : List E) (last size generat
   same_answer xs ys l m e f = rw (e, f)
 
   -- an open reader is handed what waits for it, and nothing waits then
-  pub read-open : (g : ReaderMeta) (other n : ℕ) → other ≡ count → Live g.readers n
-      → (ledger.handed (waiting_in slots last size generation (get_or g.readers n blank)), before (advanced g n last generation)) ≡ outcome (before g) (ledger.read other instance n)
-  read-open g other n same lv =
-      let live : ledger.Open (before g) n = open_at_of slots last size generation g.readers n ∙ lv in
-      let list : ledger.waiting_for (before g) n ≡ waiting_in slots last size generation (get_or g.readers n blank)
-      = ap ledger.unread (reader_at_of slots last size generation g.readers n ∙ of_live slots last size generation (get_or g.readers n blank) lv) in
+  pub read-open : (g : ReaderMeta) (other n : ℕ) (r : Reader) → other ≡ count → entry g.readers n ≡ Some r
+      → (ledger.handed (waiting_in slots last size generation r), before (advanced g n last generation)) ≡ outcome (before g) (ledger.read other instance n)
+  read-open g other n r same is =
+      let live : ledger.Open (before g) n = open_at_of slots last size generation g.readers n ∙ ap is_some is in
+      let list : ledger.waiting_for (before g) n ≡ waiting_in slots last size generation r =
+      ap ledger.unread (reader_at_of slots last size generation g.readers n ∙ ap (reader_of slots last size generation) is) in
       let left : before (advanced g n last generation) ≡ ledger.after_read (before g) n = rw (set-fresh slots last size generation g.readers n below) in
-      same_answer (waiting_in slots last size generation (get_or g.readers n blank)) (ledger.waiting_for (before g) n) (before (advanced g n last generation)) (ledger.after_read (before g) n) (sym list) left
+      same_answer (waiting_in slots last size generation r) (ledger.waiting_for (before g) n) (before (advanced g n last generation)) (ledger.after_read (before g) n) (sym list) left
       ∙ accepted-is (before g) (ledger.read other instance n) (suffices (before g) (ledger.read other instance n) (same, refl, live))
-
-  -- a number that is not open
-  pub read-shut : (g : ReaderMeta) (other n : ℕ) → other ≡ count → (get_or g.readers n blank).live ≡ false
-      → (ledger.refused 7, before g) ≡ outcome (before g) (ledger.read other instance n)
-  read-shut g other n same dead =
-      let gone : ledger.is_open (get_or (map (reader_of slots last size generation) g.readers) n ledger.shut) ≡ false = open_at_of slots last size generation g.readers n ∙ dead in
-      refused-is (before g) (ledger.read other instance n) 7 (rw (eq-eqb other count same, eq-eqb instance instance refl, gone))
-
--- a ring just made
-pub new_ledger : {E : Type 0} (instance count : ℕ) (slots : List E) (last size generation asked : ℕ) (g : ReaderMeta) → size ≡ asked → g ≡ no_readers
-    → ledger_with instance count slots last size generation g ≡ ledger.fresh instance asked count
-new_ledger instance count slots last size generation asked g e none = rw (none, all_shut slots last size generation most, e)
 
 module _ {E : Type 0} (r : RingBuffer E) (slots : List E) where
   -- a read that hands out both runs and leaves the reader with nothing to read
-  pub read-hands : (n : ℕ) (g : ReaderMeta) (v : View E) → length slots ≡ r.slots → Live r.meta.readers n
-      → g ≡ advanced r.meta n r.last.index r.generation → Runs slots (unread_place r n) (unread_count r n) r.last.size v
+  pub read-hands : (n : ℕ) (reader : Reader) (g : ReaderMeta) (v : View E) → length slots ≡ r.slots → entry r.meta.readers n ≡ Some reader
+      → g ≡ advanced r.meta n r.last.index r.generation → Runs slots (unread_place r reader) (unread_count r reader) r.last.size v
       → (ledger.handed (handed-events v), ledger_with r.instance r.slots slots r.last.index r.last.size r.generation g)
       ≡ outcome (ledger_of r slots) (ledger.read (length slots) r.instance n)
-  read-hands n g v same lv is runs =
-      let reader : Reader = get_or r.meta.readers n blank in
+  read-hands n reader g v same at is runs =
       let wide : r.last.size ≤ length slots = omega (arith, r.room) in
       let list : handed-events v ≡ waiting_in slots r.last.index r.last.size r.generation reader =
-      rw (runs.first, runs.second) (runs_unread slots r.last.index r.last.size r.generation reader (unread_place r n) wide r.last.within (r.places n lv) (r.level n lv) refl) in
+      rw (runs.first, runs.second) (runs_unread slots r.last.index r.last.size r.generation reader (unread_place r reader) wide r.last.within (r.places n reader at) (r.level n reader at) refl) in
       ap (λ ys. (ledger.handed ys, ledger_with r.instance r.slots slots r.last.index r.last.size r.generation g)) list
       ∙ ap (λ (m : ReaderMeta). (ledger.handed (waiting_in slots r.last.index r.last.size r.generation reader), ledger_with r.instance r.slots slots r.last.index r.last.size r.generation m)) is
-      ∙ read-open r.instance r.slots slots r.last.index r.last.size r.generation r.last.within r.meta (length slots) n same lv
-
-  -- a read of a number that is not open
-  pub read-refused : (n : ℕ) (fault : Fault) → length slots ≡ r.slots → fault ≡ NotOpen → (get_or r.meta.readers n blank).live ≡ false
-      → (ledger.refused (number_of fault), ledger_of r slots) ≡ outcome (ledger_of r slots) (ledger.read (length slots) r.instance n)
-  read-refused n fault same is dead = rw is (read-shut r.instance r.slots slots r.last.index r.last.size r.generation r.last.within r.meta (length slots) n same dead)
+      ∙ read-open r.instance r.slots slots r.last.index r.last.size r.generation r.last.within r.meta (length slots) n reader same at
 
 -- the same view, of the same figures
 pub same_runs : {E : Type 0} (slots : List E) (from at count many size round : ℕ) (v : View E) → from ≡ at → count ≡ many → size ≡ round → Runs slots from count size v → Runs slots at many round v

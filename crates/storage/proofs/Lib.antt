@@ -1,6 +1,7 @@
 pub mod Distances
 pub mod Drawing
 pub mod Each
+pub mod Entries
 pub mod Generations
 pub mod Growing
 pub mod Handing
@@ -11,7 +12,6 @@ pub mod Outcomes
 pub mod Over
 pub mod Rooms
 pub mod Shifts
-pub mod Steps
 pub mod Stores
 pub mod Storing
 pub mod Waiting

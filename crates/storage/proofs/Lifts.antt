@@ -1,14 +1,15 @@
 -- From the table of readers to the ledger's readers.
-use Rattle.std.proofs.Common.{◌≡◌, ℕ, zero, suc, ◌+◌, ◌-◌, ◌<◌, ◌≤◌, Bool, true, false, cond, ltb, ◌≢◌, List, [], ◌∷◌, map, length, get_or, set, refl, ap, ◌∙◌, arith}
+use Rattle.std.proofs.Common.{◌≡◌, ℕ, zero, suc, ◌+◌, ◌-◌, ◌<◌, ◌≤◌, true, false, cond, ltb, ◌≢◌, List, [], ◌∷◌, map, length, get_or, set, is_some, Some, None, Option, sym, refl, ap, ◌∙◌, arith}
 use Rattle.std.proofs.lemmas.List.{get_or-set_other, get_or-set_same}
 use Rattle.std.proofs.lemmas.Bool.{lt-ltb}
 use Rattle.ledger.specs.Ledger as ledger
-use Rattle.ledger.proofs.Readers.{get_or-map_at}
+use Rattle.ledger.proofs.Readers.{get_or-map_at, any_open_from}
 use Rattle.storage.specs.declared.reader.Reader.{Reader}
-use Rattle.storage.specs.Registry.{blank, Live}
+use Rattle.storage.specs.Registry.{entry, Live, Shut, Each}
 use Rattle.storage.specs.Meta.{lives}
 use Rattle.storage.specs.Slots.{waiting_in}
 use Rattle.storage.specs.Ledgers.{stack_of, reader_of}
+use Rattle.storage.proofs.Entries.{clash, lives-cons}
 
 -- the stack of freed numbers: what is on top, what lies below it, and a number put on it
 
@@ -35,63 +36,47 @@ stack-pushed free n freed h =
     rw (e, get_or-set_same free freed n 0 h, stack-kept free freed n freed (omega arith))
 
 module _ {E : Type 0} (slots : List E) (last size generation : ℕ) where
-  abbrev of : Reader → ledger.Reader E
+  abbrev of : Option Reader → ledger.Reader E
   of = reader_of slots last size generation
 
-  is-open_if : (b : Bool) (xs : List E) → ledger.is_open (cond b (ledger.waiting xs) ledger.shut) ≡ b
-  is-open_if true xs = refl
-  is-open_if false xs = refl
-
-  pub is-open_of : (r : Reader) → ledger.is_open (of r) ≡ r.live
-  is-open_of r = is-open_if r.live (waiting_in slots last size generation r)
-
-  pub of_live : (r : Reader) → r.live ≡ true → of r ≡ ledger.waiting (waiting_in slots last size generation r)
-  of_live r h = rw h
-
-  pub of_shut : (r : Reader) → r.live ≡ false → of r ≡ ledger.shut
-  of_shut r h = rw h
+  is-open_of : (o : Option Reader) → ledger.is_open (of o) ≡ is_some o
+  is-open_of None = refl
+  is-open_of (Some r) = refl
 
   -- what number k stands for
-  pub reader_at_of : (rs : List Reader) (k : ℕ) → get_or (map of rs) k ledger.shut ≡ of (get_or rs k blank)
-  reader_at_of rs k = get_or-map_at of blank rs k
+  pub reader_at_of : (rs : List (Option Reader)) (k : ℕ) → get_or (map of rs) k ledger.shut ≡ of (entry rs k)
+  reader_at_of rs k = get_or-map_at of None rs k
 
-  pub open_at_of : (rs : List Reader) (k : ℕ) → ledger.is_open (get_or (map of rs) k ledger.shut) ≡ (get_or rs k blank).live
-  open_at_of rs k = ap ledger.is_open (reader_at_of rs k) ∙ is-open_of (get_or rs k blank)
+  pub open_at_of : (rs : List (Option Reader)) (k : ℕ) → ledger.is_open (get_or (map of rs) k ledger.shut) ≡ is_some (entry rs k)
+  open_at_of rs k = ap ledger.is_open (reader_at_of rs k) ∙ is-open_of (entry rs k)
 
-  pub open_count-of : (rs : List Reader) → ledger.open_count (map of rs) ≡ lives rs
+  pub open_count-of : (rs : List (Option Reader)) → ledger.open_count (map of rs) ≡ lives rs
   open_count-of [] = refl
-  open_count-of (r ∷ rs) = rw (is-open_of r, open_count-of rs)
+  open_count-of (o ∷ rs) = rw (is-open_of o, open_count-of rs) (sym (lives-cons o rs))
 
   -- nobody is open
-  pub none_open_of : (rs : List Reader) → ((k : ℕ) → (get_or rs k blank).live ≡ false) → ledger.any_open (map of rs) ≡ false
+  pub none_open_of : (rs : List (Option Reader)) → ((k : ℕ) → Shut rs k) → ledger.any_open (map of rs) ≡ false
   none_open_of [] h = refl
-  none_open_of (r ∷ rs) h = rw (is-open_of r, h zero, none_open_of rs (λ k. h (suc k)))
+  none_open_of (o ∷ rs) h = rw (is-open_of o, h zero, none_open_of rs (λ k. h (suc k)))
+
+  -- somebody is open
+  pub some_open_of : (rs : List (Option Reader)) (k : ℕ) → Live rs k → ledger.any_open (map of rs) ≡ true
+  some_open_of rs k lv = any_open_from (map of rs) k (open_at_of rs k ∙ lv)
 
   -- no unread list is longer than each of these
-  pub longest-below : (rs : List Reader) (most : ℕ)
-      → ((k : ℕ) → Live rs k → length (waiting_in slots last size generation (get_or rs k blank)) ≤ most)
-      → ledger.longest (map of rs) ≤ most
+  pub longest-below : (rs : List (Option Reader)) (most : ℕ) → Each (λ r. length (waiting_in slots last size generation r) ≤ most) rs → ledger.longest (map of rs) ≤ most
   longest-below [] most h = omega arith
-  longest-below (r ∷ rs) most h =
-      let tail = longest-below rs most (λ k. h (suc k)) in
-      let head : length (ledger.unread (of r)) ≤ most = go r.live refl in
-      omega arith
-    where
-      go : (b : Bool) → r.live ≡ b → length (ledger.unread (of r)) ≤ most
-      go true e = rw (of_live r e) (h zero e)
-      go false e = rw (of_shut r e) (omega arith)
+  longest-below (None ∷ rs) most h = omega (arith, longest-below rs most (λ k. h (suc k)))
+  longest-below (Some r ∷ rs) most h = omega (arith, longest-below rs most (λ k. h (suc k)), h zero r refl)
 
   -- and each is at most the longest
-  pub longest-above : (rs : List Reader) (k : ℕ) → Live rs k → length (waiting_in slots last size generation (get_or rs k blank)) ≤ ledger.longest (map of rs)
-  longest-above [] k h = absurd (grind arith)
-  longest-above (r ∷ rs) zero h = rw (of_live r h) (omega arith)
-  longest-above (r ∷ rs) (suc k) h = omega (arith, longest-above rs k h)
+  pub longest-above : (rs : List (Option Reader)) → Each (λ r. length (waiting_in slots last size generation r) ≤ ledger.longest (map of rs)) rs
+  longest-above [] k r is = clash None r refl is
+  longest-above (o ∷ rs) zero r is = let e : o ≡ Some r = is in rw e (omega arith)
+  longest-above (o ∷ rs) (suc k) r is = omega (arith, longest-above rs k r is)
 
--- two tables stand for the same readers where each number does
-pub map-agrees : {A B C : Type 0} (f : A → C) (g : B → C) (a : A) (b : B) (xs : List A) (ys : List B) → length xs ≡ length ys
-    → ((k : ℕ) → f (get_or xs k a) ≡ g (get_or ys k b)) → map f xs ≡ map g ys
-map-agrees f g a b [] [] l h = refl
-map-agrees f g a b [] (y ∷ ys) l h = absurd (omega arith)
-map-agrees f g a b (x ∷ xs) [] l h = absurd (omega arith)
-map-agrees f g a b (x ∷ xs) (y ∷ ys) l h =
-    let t = map-agrees f g a b xs ys (omega arith) (λ k. h (suc k)) in let e = h zero in cc
+-- f of every entry is g of it, where it is so of every open reader and of an entry that is not open
+pub map-entries : {C : Type 0} (f g : Option Reader → C) (rs : List (Option Reader)) → f None ≡ g None → Each (λ r. f (Some r) ≡ g (Some r)) rs → map f rs ≡ map g rs
+map-entries f g [] n h = refl
+map-entries f g (None ∷ rs) n h = let t = map-entries f g rs n (λ k. h (suc k)) in cc
+map-entries f g (Some r ∷ rs) n h = let t = map-entries f g rs n (λ k. h (suc k)) in let e = h zero r refl in cc

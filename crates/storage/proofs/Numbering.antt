@@ -1,14 +1,14 @@
 -- Registering and closing, from the table of readers to the ledger.
-use Rattle.std.proofs.Common.{◌≡◌, ℕ, ◌+◌, ◌-◌, ◌<◌, ◌≤◌, false, ◌≢◌, List, [], ◌∷◌, map, length, get_or, set, Some, None, Option, sym, refl, ap, ◌∙◌, ⊎_elim, arith, length-append, length-drop, length-take}
+use Rattle.std.proofs.Common.{◌≡◌, ℕ, ◌+◌, ◌-◌, ◌<◌, ◌≤◌, ◌≢◌, List, [], ◌∷◌, map, length, set, Some, None, Option, sym, refl, ap, ◌∙◌, ⊎_elim, arith, length-append, length-drop, length-take}
 use Rattle.std.proofs.lemmas.List.{map-set, drop_all}
-use Rattle.std.proofs.lemmas.Bool.{eq-eqb, le-leb, cases_eq}
+use Rattle.std.proofs.lemmas.Bool.{le-leb, cases_eq}
 use Rattle.ledger.specs.Ledger as ledger
 use Rattle.ledger.specs.Ledger.{Ledger, Answer, Call, outcome, refusal, taken, decided}
 use Rattle.ledger.proofs.Refusals.{suffices}
 use Rattle.storage.specs.declared.reader.Reader.{Reader}
 use Rattle.storage.specs.declared.reader.ReaderMeta.{ReaderMeta}
-use Rattle.storage.specs.Registry.{blank, Live}
-use Rattle.storage.specs.Meta.{most, lives, fresh, closed, Alloc, opened, removed, Whole, Stack}
+use Rattle.storage.specs.Registry.{Live}
+use Rattle.storage.specs.Meta.{most, lives, fresh, Alloc, opened, removed, Whole, Stack}
 use Rattle.storage.specs.Slots.{waiting_in, recent}
 use Rattle.storage.specs.Ledgers.{stack_of, reader_of, ledger_with}
 use Rattle.storage.proofs.Distances.{distance-fresh}
@@ -30,10 +30,10 @@ module _ {E : Type 0} (slots : List E) (last size generation : ℕ) where
       let short : length (recent slots size (last + 1)) ≤ size = simp (length-append, length-drop, length-take) (omega arith) in
       rw (distance-fresh last size generation below) (drop_all size (recent slots size (last + 1)) short)
 
-  pub set-fresh : (rs : List Reader) (n : ℕ) → last < size
-      → map (reader_of slots last size generation) (set rs n (fresh last generation)) ≡ set (map (reader_of slots last size generation) rs) n (ledger.waiting [])
+  pub set-fresh : (rs : List (Option Reader)) (n : ℕ) → last < size
+      → map (reader_of slots last size generation) (set rs n (Some (fresh last generation))) ≡ set (map (reader_of slots last size generation) rs) n (ledger.waiting [])
   set-fresh rs n below =
-      map-set (reader_of slots last size generation) rs n (fresh last generation)
+      map-set (reader_of slots last size generation) rs n (Some (fresh last generation))
       ∙ ap (λ xs. set (map (reader_of slots last size generation) rs) n (ledger.waiting xs)) (nothing-waits below)
 
 module _ {E : Type 0} (instance count : ℕ) (slots : List E) (last size generation : ℕ) (below : last < size) where
@@ -46,7 +46,7 @@ module _ {E : Type 0} (instance count : ℕ) (slots : List E) (last size generat
   same_after : (rs rs' : List (ledger.Reader E)) (f f' : List ℕ) (u u' : ℕ) → rs ≡ rs' → f ≡ f' → u ≡ u' → after rs f u ≡ after rs' f' u'
   same_after rs rs' f f' u u' a b c = rw (a, b, c)
 
-  abbrev of_all : List Reader → List (ledger.Reader E)
+  abbrev of_all : List (Option Reader) → List (ledger.Reader E)
   of_all = map (reader_of slots last size generation)
 
   some_is_not_none : (n : ℕ) → ◌≡◌ {A = Option ℕ} (Some n) None → ⊥
@@ -87,11 +87,5 @@ module _ {E : Type 0} (instance count : ℕ) (slots : List E) (last size generat
       let live : ledger.Open (before g) n = open_at_of slots last size generation g.readers n ∙ lv in
       ap (λ (l : Ledger E). (ledger.closed, l))
       (same_after (of_all (removed g n).readers) (set (of_all g.readers) n ledger.shut) (stack_of (set g.free g.freed n) (g.freed + 1)) (n ∷ stack_of g.free g.freed) g.used g.used
-      (map-set (reader_of slots last size generation) g.readers n (closed (get_or g.readers n blank))) (stack-pushed g.free n g.freed room) refl)
+      (map-set (reader_of slots last size generation) g.readers n None) (stack-pushed g.free n g.freed room) refl)
       ∙ accepted-is (before g) (ledger.close instance n) (suffices (before g) (ledger.close instance n) (refl, live))
-
-  pub close-shut : (g : ReaderMeta) (n : ℕ) → (get_or g.readers n blank).live ≡ false
-      → (ledger.refused 7, before g) ≡ outcome (before g) (ledger.close instance n)
-  close-shut g n dead =
-      let gone : ledger.is_open (get_or (of_all g.readers) n ledger.shut) ≡ false = open_at_of slots last size generation g.readers n ∙ dead in
-      refused-is (before g) (ledger.close instance n) 7 (rw (eq-eqb instance instance refl, gone))

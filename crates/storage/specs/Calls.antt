@@ -1,8 +1,9 @@
 -- What a call leaves of a ring beside what the ledger says. Assumes nothing.
-use Rattle.std.specs.Prelude.{◌≡◌, ℕ, ◌+◌, ◌-◌, ◌%◌, ◌≤◌, min, List, [], length, Ok, Err, Result, OnErr, slice_index_or}
+use Rattle.std.specs.Prelude.{◌≡◌, ℕ, ◌+◌, ◌-◌, ◌%◌, ◌≤◌, min, List, [], length, Some, Ok, Err, Result, OnErr}
+use Rattle.storage.specs.declared.reader.Reader.{Reader}
 use Rattle.storage.specs.declared.ring.RingBuffer.{RingBuffer}
 use Rattle.storage.specs.declared.view.View.{View}
-use Rattle.storage.specs.Registry.{blank, unread}
+use Rattle.storage.specs.Registry.{entry, unread}
 use Rattle.storage.specs.Slots.{part}
 
 -- a refused call leaves a value as it was
@@ -18,12 +19,12 @@ module _ {E : Type 0} where
     pub instance : after.instance ≡ before.instance
 
   -- where the events begin that the reader has not read: at the place after its own
-  abbrev pub unread_place : RingBuffer E → ℕ → ℕ
-  unread_place r n = ((slice_index_or r.meta.readers n blank).place + 1) % r.last.size
+  abbrev pub unread_place : RingBuffer E → Reader → ℕ
+  unread_place r reader = (reader.place + 1) % r.last.size
 
   -- and how many they are
-  abbrev pub unread_count : RingBuffer E → ℕ → ℕ
-  unread_count r n = unread r.last.index r.last.size r.generation (slice_index_or r.meta.readers n blank)
+  abbrev pub unread_count : RingBuffer E → Reader → ℕ
+  unread_count r reader = unread r.last.index r.last.size r.generation reader
 
   -- a view of so many events from a place: a run up to the ring's end, and one from place 0 where that does not do
   pub record Runs (slots : List E) (from count size : ℕ) (v : View E) : Type 0 where
@@ -34,5 +35,6 @@ module _ {E : Type 0} where
 
   -- a read hands out exactly the unread events' runs
   abbrev pub ReadsRuns : {F : Type 0} → Result (View E) F → RingBuffer E → List E → ℕ → Type 0
-  ReadsRuns (Ok v) r slots n = Runs slots (unread_place r n) (unread_count r n) r.last.size v
+  ReadsRuns (Ok v) r slots n =
+      (reader : Reader) × (entry r.meta.readers n ≡ Some reader) × Runs slots (unread_place r reader) (unread_count r reader) r.last.size v
   ReadsRuns (Err f) r slots n = Unit {0}

@@ -1,5 +1,6 @@
 -- The ledger that a ring and its slots stand for, and what the ring's answers are to it. Assumes nothing.
-use Rattle.std.specs.Prelude.{ℕ, zero, suc, cond, List, [], ◌∷◌, map, Ok, Err, Result, slice_index}
+use Rattle.std.specs.Prelude.{ℕ, zero, suc, List, [], ◌∷◌, map, Option, Ok, Err, Result, slice_index}
+use Rattle.std.specs.Option.{option_map_or}
 use Rattle.source.specs.declared.fault.Fault.{Fault}
 use Rattle.source.specs.Faults.{number_of}
 use Rattle.ledger.specs.Ledger as ledger
@@ -18,8 +19,8 @@ stack_of free (suc n) = slice_index free n ∷ stack_of free n
 
 module _ {E : Type 0} where
   -- what one entry of the table stands for
-  abbrev pub reader_of : List E → ℕ → ℕ → ℕ → Reader → ledger.Reader E
-  reader_of slots last size generation r = cond r.live (ledger.waiting (waiting_in slots last size generation r)) ledger.shut
+  abbrev pub reader_of : List E → ℕ → ℕ → ℕ → Option Reader → ledger.Reader E
+  reader_of slots last size generation o = option_map_or (λ r. ledger.waiting (waiting_in slots last size generation r)) o ledger.shut
 
   -- the same of figures: instance number and slot count, slots, last place, size, generation and table
   abbrev pub ledger_with : ℕ → ℕ → List E → ℕ → ℕ → ℕ → ReaderMeta → Ledger E

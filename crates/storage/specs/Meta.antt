@@ -1,10 +1,9 @@
 -- The table of readers: what it keeps, and what each of its calls does to it. Assumes nothing.
-use Rattle.std.specs.Prelude.{◌≡◌, ℕ, ◌+◌, ◌-◌, ◌<◌, ◌≤◌, true, false, cond, List, [], ◌∷◌, map, length, get_or, replicate, Some, None, Ok, Err, Option, Result, ◌≢◌, nat_lt, slice_index, slice_index_or, slice_set}
-use Rattle.source.specs.declared.fault.Fault.{Fault}
-use Rattle.source.specs.declared.fault.Fault.TheVariants.{NotOpen}
+use Rattle.std.specs.Prelude.{◌≡◌, ℕ, ◌+◌, ◌-◌, ◌<◌, ◌≤◌, cond, List, map, length, replicate, Some, None, Option, is_some, option_map, ◌≢◌, nat_lt, slice_index, slice_set}
+use Rattle.std.specs.List.{count_by}
 use Rattle.storage.specs.declared.reader.Reader.{Reader}
 use Rattle.storage.specs.declared.reader.ReaderMeta.{ReaderMeta}
-use Rattle.storage.specs.Registry.{blank, Live, shifted}
+use Rattle.storage.specs.Registry.{entry, Live, Shut, shifted}
 
 -- how many readers may be open at a time
 abbrev pub most : ℕ
@@ -12,38 +11,26 @@ most = 64
 
 -- a reader that has read everything up to the place
 abbrev pub fresh : ℕ → ℕ → Reader
-fresh place generation = record { place = place; generation = generation; live = true }
-
-abbrev pub closed : Reader → Reader
-closed r = record { place = r.place; generation = r.generation; live = false }
+fresh place generation = record { place = place; generation = generation }
 
 -- how many are open
-abbrev pub lives : List Reader → ℕ
-lives [] = 0
-lives (r ∷ rs) = cond r.live 1 0 + lives rs
-
--- every open reader's place is below size
-abbrev pub Places : List Reader → ℕ → Type 0
-Places rs size = (k : ℕ) → Live rs k → (get_or rs k blank).place < size
+abbrev pub lives : List (Option Reader) → ℕ
+lives rs = count_by is_some rs
 
 -- of the first n, i is the open one of least distance `far`, the lowest among equals; or none is open
-abbrev pub Nearest : (Reader → ℕ) → List Reader → ℕ → Option ℕ → Type 0
-Nearest far rs n None = (k : ℕ) → k < n → (get_or rs k blank).live ≡ false
+abbrev pub Nearest : (Reader → ℕ) → List (Option Reader) → ℕ → Option ℕ → Type 0
+Nearest far rs n None = (k : ℕ) → k < n → Shut rs k
 Nearest far rs n (Some i) =
-    (i < n) × Live rs i
-    × ((k : ℕ) → k < n → Live rs k → far (slice_index_or rs i blank) ≤ far (slice_index_or rs k blank))
-    × ((k : ℕ) → k < i → Live rs k → far (slice_index_or rs i blank) < far (slice_index_or rs k blank))
-
--- the number is open, or it is refused because it is not
-abbrev pub Checked : List Reader → ℕ → Result (Unit {0}) Fault → Type 0
-Checked rs n (Ok _) = Live rs n
-Checked rs n (Err f) = (f ≡ NotOpen) × ((get_or rs n blank).live ≡ false)
+    (i < n)
+    × (r : Reader) × (entry rs i ≡ Some r)
+    × ((k : ℕ) (s : Reader) → k < n → entry rs k ≡ Some s → far r ≤ far s)
+    × ((k : ℕ) (s : Reader) → k < i → entry rs k ≡ Some s → far r < far s)
 
 -- the table before anyone registered
 abbrev pub no_readers : ReaderMeta
-no_readers = record { readers = replicate most blank; free = replicate most 0; freed = 0; used = 0 }
+no_readers = record { readers = replicate most None; free = replicate most 0; freed = 0; used = 0 }
 
-abbrev pub with_readers : ReaderMeta → List Reader → ReaderMeta
+abbrev pub with_readers : ReaderMeta → List (Option Reader) → ReaderMeta
 with_readers g rs = record { readers = rs; free = g.free; freed = g.freed; used = g.used }
 
 -- the freed number at place k of the stack, counted from the bottom
@@ -57,7 +44,7 @@ number g = cond (nat_lt 0 g.freed) (freed_at g (g.freed - 1)) g.used
 -- the table after a registration under the number n
 abbrev pub opened : ReaderMeta → ℕ → ℕ → ℕ → ReaderMeta
 opened g n place generation = record {
-  readers = slice_set g.readers n (fresh place generation);
+  readers = slice_set g.readers n (Some (fresh place generation));
   free = g.free;
   freed = g.freed - 1;
   used = cond (nat_lt 0 g.freed) g.used (g.used + 1);
@@ -71,7 +58,7 @@ Alloc g h place generation (Some n) = (n ≡ number g) × (n < most) × (h ≡ o
 -- the number n is closed and put on the stack
 abbrev pub removed : ReaderMeta → ℕ → ReaderMeta
 removed g n = record {
-  readers = slice_set g.readers n (closed (slice_index_or g.readers n blank));
+  readers = slice_set g.readers n None;
   free = slice_set g.free g.freed n;
   freed = g.freed + 1;
   used = g.used;
@@ -79,11 +66,11 @@ removed g n = record {
 
 -- the reader n has read everything up to the place
 abbrev pub advanced : ReaderMeta → ℕ → ℕ → ℕ → ReaderMeta
-advanced g n place generation = with_readers g (slice_set g.readers n (fresh place generation))
+advanced g n place generation = with_readers g (slice_set g.readers n (Some (fresh place generation)))
 
 -- growth by `by`
 abbrev pub shifted_all : ReaderMeta → ℕ → ℕ → ℕ → ReaderMeta
-shifted_all g last generation by = with_readers g (map (shifted last generation by) g.readers)
+shifted_all g last generation by = with_readers g (map (option_map (shifted last generation by)) g.readers)
 
 -- each number ever used is open or freed
 abbrev pub Whole : ReaderMeta → Type 0
@@ -97,13 +84,13 @@ Whole g =
 abbrev pub Stack : ReaderMeta → Type 0
 Stack g =
     ((k : ℕ) → k < g.freed → freed_at g k < g.used)
-    × ((k : ℕ) → k < g.freed → (get_or g.readers (freed_at g k) blank).live ≡ false)
+    × ((k : ℕ) → k < g.freed → Shut g.readers (freed_at g k))
     × (length g.free ≡ most)
 
 -- and stands there once
 abbrev pub Apart : ReaderMeta → Type 0
 Apart g = (j k : ℕ) → j < k → k < g.freed → freed_at g j ≢ freed_at g k
 
--- all that the table keeps, in a ring of the given size
-abbrev pub Sound : ReaderMeta → ℕ → Type 0
-Sound g size = Places g.readers size × Whole g × Stack g × Apart g
+-- all that the table keeps
+abbrev pub Sound : ReaderMeta → Type 0
+Sound g = Whole g × Stack g × Apart g

@@ -1,9 +1,9 @@
-ghost use Rattle.std.specs.Prelude.{◌≡◌, ℕ, ◌-◌, ◌<◌, ◌≤◌, ◌&&◌, Some, Decides, ◌==◌};
-ghost use Rattle.storage.specs.Registry.{distance, unread, needs_shift, Live};
-ghost use Rattle.storage.specs.Meta.{most, closed, Places, Nearest, no_readers, Alloc, removed, advanced, shifted_all, Whole, Stack, Checked};
+ghost use Rattle.std.specs.Prelude.{◌≡◌, ℕ, ◌-◌, ◌<◌, ◌≤◌, ◌&&◌, ◌↔◌, Some, IsTrue, ◌==◌};
+ghost use Rattle.storage.specs.Registry.{entry, distance, unread, needs_shift, Live};
+ghost use Rattle.storage.specs.Kept.{Places};
+ghost use Rattle.storage.specs.Meta.{most, Nearest, no_readers, Alloc, removed, advanced, shifted_all, Whole, Stack};
 
 use crate::circular::CircularIndex;
-use source::fault::Fault;
 
 // How many readers may be open at a time.
 pub const READERS: usize = 64;
@@ -13,31 +13,18 @@ pub const READERS: usize = 64;
 pub struct Reader {
     pub(crate) place: usize,
     pub(crate) generation: u64,
-    pub(crate) live: bool,
 }
 
-// The readers, by number, and a stack of the numbers that were freed.
+// The open readers, by number, and a stack of the numbers that were freed.
 #[derive(Clone, Copy)]
 pub struct ReaderMeta {
-    pub(crate) readers: [Reader; READERS],
+    pub(crate) readers: [Option<Reader>; READERS],
     pub(crate) free: [u16; READERS],
     pub(crate) freed: usize,
     pub(crate) used: usize,
 }
 
 impl Reader {
-    pub(crate) fn set_inactive(&mut self)
-        ensures { self.new ≡ closed self.old }
-    {
-        self.live = false;
-    }
-
-    pub(crate) fn active(&self) -> bool
-        ensures { result ≡ self.now.live }
-    {
-        self.live
-    }
-
     pub(crate) fn distance_from(&self, last: CircularIndex, generation: u64) -> usize
         requires { self.now.place < last.size }
         ensures { result ≡ distance last.index last.size generation self.now }
@@ -74,40 +61,25 @@ impl ReaderMeta {
     pub(crate) fn new() -> Self
         ensures { result ≡ no_readers }
     {
-        let blank = Reader {
-            place: 0,
-            generation: 0,
-            live: false,
-        };
         ReaderMeta {
-            readers: [blank; READERS],
+            readers: [None; READERS],
             free: [0; READERS],
             freed: 0,
             used: 0,
         }
     }
 
-    pub(crate) fn has_reader(&self) -> bool
-        ensures { Decides result ((k : ℕ) × Live self.now.readers k) }
+    // The reader of a number. None where nobody has it open.
+    pub(crate) fn reader(&self, number: usize) -> Option<Reader>
+        ensures { result ≡ entry self.now.readers number }
     {
-        for reader in &self.readers[..] {
-            if reader.active() {
-                return true;
-            }
-        }
-        false
+        *self.readers.get(number)?
     }
 
-    // A number that is not open is refused.
-    pub(crate) fn check_open(&self, number: usize) -> Result<(), Fault>
-        requires { Whole self.now }
-        ensures { Checked self.now.readers number result }
+    pub(crate) fn has_reader(&self) -> bool
+        ensures { IsTrue result ↔ ((k : ℕ) × Live self.now.readers k) }
     {
-        if number < READERS && self.readers[number].active() {
-            Ok(())
-        } else {
-            Err(Fault::NotOpen)
-        }
+        self.readers.iter().any(|reader| reader.is_some())
     }
 
     // Every number is taken.
@@ -131,10 +103,7 @@ impl ReaderMeta {
             self.used += 1;
             self.used - 1
         };
-        let reader = &mut self.readers[id];
-        reader.place = place;
-        reader.generation = generation;
-        reader.live = true;
+        self.readers[id] = Some(Reader { place, generation });
         id
     }
 
@@ -143,7 +112,7 @@ impl ReaderMeta {
         requires live { Live self.old.readers id }
         ensures { self.new ≡ removed self.old id }
     {
-        self.readers[id].set_inactive();
+        self.readers[id] = None;
         self.free[self.freed] = id as u16;
         self.freed += 1;
     }
@@ -154,28 +123,26 @@ impl ReaderMeta {
         requires live { Live self.old.readers id }
         ensures { self.new ≡ advanced self.old id place generation }
     {
-        let reader = &mut self.readers[id];
-        reader.place = place;
-        reader.generation = generation;
+        self.readers[id] = Some(Reader { place, generation });
     }
 
-    // The number of the open reader of least distance: of equals the first stays.
+    // The number of the open reader of least distance: of equals the first stays. The search is a loop over the entries
+    // with their index, as a rule of the project has it.
     pub(crate) fn nearest_index(&self, last: CircularIndex, generation: u64) -> Option<usize>
         requires { Places self.now.readers last.size }
         ensures { Nearest (distance last.index last.size generation) self.now.readers most result }
     {
-        let mut nearest = None;
-        let mut least = 0;
-        for (id, reader) in self.readers.iter().enumerate() {
-            if reader.active() {
+        let mut nearest: Option<(usize, usize)> = None;
+        for (id, entry) in self.readers.iter().enumerate() {
+            if let Some(reader) = entry {
                 let distance = reader.distance_from(last, generation);
-                if nearest.is_none() || distance < least {
-                    nearest = Some(id);
-                    least = distance;
-                }
+                nearest = match nearest {
+                    Some((_, least)) if least <= distance => nearest,
+                    _ => Some((id, distance)),
+                };
             }
         }
-        nearest
+        nearest.map(|(id, _)| id)
     }
 
     // Growth by `by` moves what lies above the last place, and the readers with it.
@@ -183,13 +150,11 @@ impl ReaderMeta {
         requires { Places self.old.readers (1048576 - by) }
         ensures { self.new ≡ shifted_all self.old last generation by }
     {
-        let readers = &mut self.readers[..];
-        for reader in readers.iter_mut() {
-            if !reader.active() {
-                continue;
-            }
-            if reader.needs_shift(last, generation) {
-                reader.place += by;
+        for entry in &mut self.readers {
+            if let Some(reader) = entry {
+                if reader.needs_shift(last, generation) {
+                    reader.place += by;
+                }
             }
         }
     }

@@ -20,9 +20,8 @@ impl<E> RingBuffer<E> {
         if slots.len() != self.slots {
             return Err(Fault::OtherSlots);
         }
-        self.meta.check_open(number)?;
+        let reader = self.meta.reader(number).ok_or(Fault::NotOpen)?;
         let last = self.last;
-        let reader = self.meta.readers[number];
         let from = CircularIndex::new(reader.place, last.size).step();
         let count = reader.unread_from(last, self.generation);
         self.meta.advance(number, last.index, self.generation);

@@ -28,7 +28,7 @@ impl<E> RingBuffer<E> {
         ensures rest { SameButReaders self.old self.new }
         ensures refused { Unchanged result self.old self.new }
     {
-        self.meta.check_open(number)?;
+        self.meta.reader(number).ok_or(Fault::NotOpen)?;
         self.meta.remove(number);
         Ok(())
     }

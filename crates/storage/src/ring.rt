@@ -1,6 +1,6 @@
 ghost use Rattle.std.specs.Prelude.{⊤, ◌≡◌, ◌≤◌};
-ghost use Rattle.storage.specs.Kept.{Bounded, Lags, Level, Ahead};
-ghost use Rattle.storage.specs.Meta.{Places, Whole, Stack, Apart};
+ghost use Rattle.storage.specs.Kept.{Places, Bounded, Lags, Level, Ahead};
+ghost use Rattle.storage.specs.Meta.{Whole, Stack, Apart};
 
 use crate::circular::CircularIndex;
 use crate::reader::ReaderMeta;

@@ -105,7 +105,7 @@ impl<E: Copy> RingBuffer<E> {
             self.available = size;
             return Ok(());
         };
-        let reader = self.meta.readers[nearest];
+        let reader = self.meta.readers[nearest].unwrap();
         let left = reader.distance_from(self.last, self.generation);
         if left >= num {
             self.available = left;
