@@ -3,6 +3,4 @@ pub mod Bytes
 pub mod Carries
 pub mod Fits
 pub mod Printing
-pub mod Steps
 pub mod Telling
-pub mod Views

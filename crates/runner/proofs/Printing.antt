@@ -22,10 +22,6 @@ printed-within room (a ∷ rest) =
     (leb-true (length (rendered a.1)) room e) (printed-within (room - length (rendered a.1)) rest))
     (λ e. omega arith)
 
-pub ends-within : (m : Result (List (ℕ × Record)) (ℕ × ℕ)) (before out : List ℕ) (r : Ran) → Ends m before out r → r.written ≤ length before
-ends-within (Ok records) before out r ends = let few = printed-within (length before) (session records) in omega (arith, ends.written)
-ends-within (Err fault) before out r ends = omega (arith, ends.written)
-
 -- a script that passed the check means a list
 pub ends_of : (m : Result (List (ℕ × Record)) (ℕ × ℕ)) (before out : List ℕ) (r : Ran) → is_ok m ≡ true
     → ((records : List (ℕ × Record)) → m ≡ Ok records → Wrote before 0 (printed (length before) (session records)) out r)

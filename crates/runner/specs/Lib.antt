@@ -1,3 +1,4 @@
+pub mod Calls
 pub mod Hosts
 pub mod Laws
 pub mod Runs

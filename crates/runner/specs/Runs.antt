@@ -1,10 +1,11 @@
 -- What a run of a script leaves. Assumes nothing.
-use Rattle.std.specs.Prelude.{◌≡◌, ℕ, ◌+◌, ◌-◌, cond, List, [], length, Some, None, Ok, Err, Option, Result, nat_le}
+use Rattle.std.specs.Prelude.{◌≡◌, ℕ, ◌+◌, ◌-◌, List, length, Some, None, Ok, Err, Option, Result}
 use Rattle.std.proofs.Math.Seq.{paste}
 use Rattle.source.specs.Faults.{number_of}
 use Rattle.ledger.specs.Ledger.{Ledger}
 use Rattle.script.specs.declared.check.ScriptFault.{ScriptFault}
-use Rattle.script.specs.Records.{Record, meaning, rest_of}
+use Rattle.script.specs.Drawn.{records_left}
+use Rattle.script.specs.Records.{Record, meaning}
 use Rattle.runner.specs.declared.run.Ran.{Ran}
 use Rattle.runner.specs.Sessions.{answers, session, printed}
 
@@ -38,14 +39,10 @@ Ends (Err fault) before after r = Faulty before fault after r
 abbrev pub Runs : List ℕ → List ℕ → List ℕ → Ran → Type 0
 Runs script before after r = Ends (meaning script) before after r
 
--- the records from a place on; none from the end on
-abbrev pub records_at : List ℕ → ℕ → Result (List (ℕ × Record)) (ℕ × ℕ)
-records_at script at = cond (nat_le (length script) at) (Ok []) (rest_of script at)
-
--- the same of the records from a place on, with this ledger and so many bytes written
-abbrev pub Carries : List ℕ → ℕ → Ledger ℕ → List ℕ → ℕ → List ℕ → Ran → Type 0
-Carries script at l before from after r =
-    (records : List (ℕ × Record)) → records_at script at ≡ Ok records
+-- the same of the records that are left, with this ledger and so many bytes written
+abbrev pub Carries : List ℕ → Option ℕ → Ledger ℕ → List ℕ → ℕ → List ℕ → Ran → Type 0
+Carries script next l before from after r =
+    (records : List (ℕ × Record)) → records_left script next ≡ Ok records
     → Wrote before from (printed (length before - from) (answers l records)) after r
 
 -- the same of a whole script that passed the check

@@ -1,7 +1,7 @@
 // Runs scripts: the records are read, carried out on a ring, and answered by lines.
 #![tactic(auto)]
 
-mod call;
 pub mod export;
 pub mod laws;
 pub mod run;
+mod session;

@@ -1,4 +1,5 @@
 pub mod Bodies
+pub mod Draws
 pub mod Fields
 pub mod Letters
 pub mod Pastes

@@ -1,5 +1,5 @@
 -- The records from a place on, one record at a time.
-use Rattle.std.proofs.Common.{◌≡◌, ℕ, zero, suc, ◌+◌, ◌-◌, ◌<◌, ◌≤◌, Bool, true, false, cond, eqb, ltb, leb, List, [], ◌∷◌, length, take, drop, is_ok, Some, None, Ok, Err, Option, Result, refl, ap, ◌∙◌, subst, inl, inr, arith}
+use Rattle.std.proofs.Common.{◌≡◌, ℕ, zero, suc, ◌+◌, ◌-◌, ◌<◌, ◌≤◌, Bool, true, false, cond, eqb, ltb, leb, List, [], ◌∷◌, length, take, drop, Some, None, Ok, Err, Option, Result, refl, ap, ◌∙◌, subst, inl, inr, arith}
 use Rattle.std.specs.Result.{result_err}
 use Rattle.std.proofs.lemmas.List.{length-drop}
 use Rattle.std.proofs.lemmas.Bool.{cases_lt, cond_both, le-leb, lt-leb, leb-true}
@@ -89,10 +89,6 @@ rest_last script at found low is all =
 pub fault-before : (at : ℕ) (r : Record) (m : Result (List (ℕ × Record)) (ℕ × ℕ)) → result_err (before at r m) ≡ result_err m
 fault-before at r (Ok rest) = refl
 fault-before at r (Err fault) = refl
-
-pub passes : (m : Result (List (ℕ × Record)) (ℕ × ℕ)) → result_err m ≡ None → is_ok m ≡ true
-passes (Ok rest) e = refl
-passes (Err fault) e = let z : ◌≡◌ {A = ℕ} 0 1 = cc in absurd (omega arith)
 
 pub fails : (m : Result (List (ℕ × Record)) (ℕ × ℕ)) (f : ℕ × ℕ) → result_err m ≡ Some f → m ≡ Err f
 fails (Ok rest) f e = let z : ◌≡◌ {A = ℕ} 0 1 = cc in absurd (omega arith)

@@ -1,3 +1,4 @@
+pub mod Drawn
 pub mod Known
 pub mod Lines
 pub mod Marks

@@ -2,7 +2,7 @@ ghost use Rattle.script.specs.Known.{KnownFaults, KnownLines};
 ghost use Rattle.script.specs.Parsed.{Checked};
 ghost use Rattle.script.specs.Spelling.{ReadsBack};
 
-use crate::record::Record;
+use crate::records::Records;
 use source::fault::Fault;
 
 // What is wrong with a script, and where the faulty record begins.
@@ -16,16 +16,10 @@ pub struct ScriptFault {
 pub fn check(script: &[u8]) -> Result<(), ScriptFault>
     ensures { Checked script.now result }
 {
-    let mut at = 0;
-    loop {
-        match Record::read(script, at) {
-            Ok((_, size)) => at += size,
-            Err(fault) => return Err(ScriptFault { fault, at }),
-        }
-        if at >= script.len() {
-            return Ok(());
-        }
+    for record in Records::new(script) {
+        record?;
     }
+    Ok(())
 }
 
 // Every list of records that begins with its only opening can be written as a script, which means that list. Nothing is

@@ -7,3 +7,4 @@ pub mod line;
 pub mod mark;
 mod number;
 pub mod record;
+pub mod records;

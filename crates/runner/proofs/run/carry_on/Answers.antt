@@ -1,64 +1,89 @@
-use Rattle.std.proofs.Common.{ℕ, ◌+◌, None, sym, refl, arith}
+use Rattle.std.proofs.Common.{rules, ap, arith, Some, None, refl, subst}
+use Rattle.std.proofs.lemmas.Result.{err_from_is_err_and}
 use Rattle.source.specs.Faults.{number_of}
+use Rattle.script.proofs.Draws.{record-given, fault-given, none-given}
 use Rattle.script.specs.Parsed.{meant}
-use Rattle.script.specs.Records.{Record}
-use Rattle.runner.specs.declared.run.Ran.{Ran}
+use Rattle.runner.specs.Calls.{ledger_in}
+use Rattle.script.specs.Lines.{rendered, Put}
+use Rattle.runner.specs.Runs.{Carries}
 use Rattle.runner.specs.Sessions.{answered}
-use Rattle.script.proofs.Rests.{sized_of}
-use Rattle.storage.specs.Ledgers.{ledger_of}
-use Rattle.runner.proofs.Carries.{carries_none, carries_more, carries_full, carries_fault, carries_at}
+use Rattle.runner.specs.declared.run.Ran.{Ran}
+use Rattle.runner.proofs.Carries.{begun_at, Placed, placed-ok, placed-err, carries_none, carries_more, carries_full, carries_fault}
 use Rattle.runner.proofs.run.carry_on.Goals as goal
 
-pub returns-in-Err : goal.returns-in-Err
-returns-in-Err c =
-    let l = ledger_of c.loop-at.ring c.loop-at.slots in
-    let rest =
-    carries_fault c.args.script.now c.loop-at.at l c.loop-at.out c.loop-at.written c.loop-at.invariant.1
-    (number_of c.in-Err.fault) c.loop-at.out c.stopped.result c.loop-at-test.true (sym c.in-Err.ensures) in
-    carries_at c.args.script.now c.args.at _ _ _ _ _ _ (c.new-ring.ensures.ledger _) (c.loop-at.invariant.3 c.loop-at.out c.stopped.result rest)
+pub loop-found-init : goal.loop-found-init
+loop-found-init c =
+    record {
+      can = tt;
+      ends = tt;
+      script = cc;
+      within = rw c.into_iter-found-iterator.ensures.into_iter_gives c.requires.within;
+      room = c.requires.room;
+      rest = λ after r whole. whole;
+    }
 
-pub returns-in-Err-step : goal.returns-in-Err-step
-returns-in-Err-step c =
-    let l = ledger_of c.loop-at.ring c.loop-at.slots in
-    let found : Record × ℕ = (meant c.in-Ok.found.0, c.in-Ok.found.1) in
-    let rest =
-    carries_full c.args.script.now c.loop-at.at l c.loop-at.out c.loop-at.written c.loop-at.invariant.1
-    found c.step.new.out c.in-Err-step.full c.stopped-in-Err-step.result c.loop-at-test.true
-    (sym c.in-Ok.ensures) c.in-Err-step.ensures.line c.stopped-in-Err-step.ensures.written
-    c.stopped-in-Err-step.ensures.fault in
-    carries_at c.args.script.now c.args.at _ _ _ _ _ _ (c.new-ring.ensures.ledger _) (c.loop-at.invariant.3 c.step.new.out c.stopped-in-Err-step.result rest)
+pub returns-in_err-at : goal.returns-in_err-at
+returns-in_err-at c =
+    let was = c.loop-found.invariant in
+    let script = c.into_iter-found-iterator.result.script.now in
+    let found = c.in_err-at.field-0.0 in
+    let p = err_from_is_err_and c.from_residual.result c.from_residual.ensures.1 in
+    let r : Ran = record { written = c.loop-found.written; fault = Some found } in
+    let left = fault-given script c.loop-found.found-iterator c.next.new.self was.script c.in-Some.found c.in-Some.ensures.steps found c.in_err-at.was was.within in
+    let rest = carries_fault script c.loop-found.found-iterator.next (ledger_in c.loop-found.session) c.loop-found.out c.loop-found.written (number_of found.fault, found.at) c.loop-found.out r left in
+    let whole = was.rest c.loop-found.out r rest in
+    rw (p.1, p.2) (begun_at c.args.records c.into_iter-found-iterator.result _ _ _ _ _ _ c.into_iter-found-iterator.ensures.into_iter_gives c.new-session.ensures whole)
 
-pub overflow_add-at : goal.overflow_add-at
-overflow_add-at c = let size = sized_of c.args.script.now c.loop-at.at _ (sym c.in-Ok.ensures) in omega arith
+pub returns-in_err-written : goal.returns-in_err-written
+returns-in_err-written c =
+    let was = c.loop-found.invariant in
+    let script = c.into_iter-found-iterator.result.script.now in
+    let found = c.in_err-written.field-0.0 in
+    let placed : Placed c.in_ok-at.at c.step-end.result c.map_err.result = search rules in
+    let full = placed-err c.in_ok-at.at c.step-end.result c.map_err.result found placed c.in_err-written.was in
+    let p = err_from_is_err_and c.from_residual-in_err-written.result c.from_residual-in_err-written.ensures.1 in
+    let r : Ran = record { written = c.loop-found.written; fault = Some found } in
+    let l = ledger_in c.loop-found.session in
+    let record' = meant c.in_ok-at.record in
+    let left = record-given script c.loop-found.found-iterator c.next.new.self was.script c.in-Some.found c.in-Some.ensures.steps (c.in_ok-at.at, c.in_ok-at.record) c.in_ok-at.was was.within in
+    let put = subst (λ e. Put c.loop-found.out c.loop-found.written (rendered (answered l record').0) c.step-end.new.out e) full.0 c.step-end.ensures.line in
+    let told = ap (λ n. Some (number_of found.fault, n)) full.1 in
+    let rest = carries_full script c.loop-found.found-iterator.next l c.loop-found.out c.loop-found.written c.in_ok-at.at record' c.next.new.self.next was.room left.1 c.step-end.new.out found.fault r put refl told in
+    let whole = was.rest c.step-end.new.out r rest in
+    rw (p.1, p.2) (begun_at c.args.records c.into_iter-found-iterator.result _ _ _ _ _ _ c.into_iter-found-iterator.ensures.into_iter_gives c.new-session.ensures whole)
 
-pub loop-at-smaller : goal.loop-at-smaller
-loop-at-smaller c = let size = sized_of c.args.script.now c.loop-at.at _ (sym c.in-Ok.ensures) in omega arith
-
-pub loop-at-preserved : goal.loop-at-preserved
-loop-at-preserved c =
-    let l = ledger_of c.loop-at.ring c.loop-at.slots in
-    let found : Record × ℕ = (meant c.in-Ok.found.0, c.in-Ok.found.1) in
-    let size = sized_of c.args.script.now c.loop-at.at found (sym c.in-Ok.ensures) in
-    let put = c.in-Ok-step.ensures.line in
+pub loop-found-preserved : goal.loop-found-preserved
+loop-found-preserved c =
+    let was = c.loop-found.invariant in
+    let script = c.into_iter-found-iterator.result.script.now in
+    let placed : Placed c.in_ok-at.at c.step-end.result c.map_err.result = search rules in
+    let end = c.in_ok-written.field-0 in
+    let l = ledger_in c.loop-found.session in
+    let record' = meant c.in_ok-at.record in
+    let left = record-given script c.loop-found.found-iterator c.next.new.self was.script c.in-Some.found c.in-Some.ensures.steps (c.in_ok-at.at, c.in_ok-at.record) c.in_ok-at.was was.within in
+    let put = subst (λ e. Put c.loop-found.out c.loop-found.written (rendered (answered l record').0) c.step-end.new.out e) (placed-ok c.in_ok-at.at c.step-end.result c.map_err.result end placed c.in_ok-written.was) c.step-end.ensures.line in
     let fits = put.1 in
-    let wide = c.step.auto.out in
-    let many = c.step.auto.slots in (
-      size.1,
-      omega arith,
-      omega arith,
-      λ after r more.
-          c.loop-at.invariant.3 after r
-          (carries_more c.args.script.now c.loop-at.at l c.loop-at.out c.loop-at.written c.loop-at.invariant.1
-          found c.step.new.out after c.in-Ok-step.end r c.loop-at-test.true (sym c.in-Ok.ensures) put
-          (carries_at c.args.script.now (c.loop-at.at + c.in-Ok.found.1) (ledger_of c.step.new.ring c.step.new.slots) (answered l found.0).1
-          c.step.new.out c.in-Ok-step.end after r c.step.ensures.ledger more)),
-    )
+    let wide = c.step-end.auto.out in
+    record {
+      can = tt;
+      ends = tt;
+      script = cc;
+      within = left.0;
+      room = omega arith;
+      rest =
+          λ after r more.
+          was.rest after r
+          (carries_more script c.loop-found.found-iterator.next l c.loop-found.out c.loop-found.written c.in_ok-at.at record' c.next.new.self.next was.room left.1
+          c.step-end.new.out after end r put
+          (subst (λ k. Carries script c.next.new.self.next k c.step-end.new.out end after r) c.step-end.ensures.ledger more));
+    }
 
 pub returns : goal.returns
 returns c =
-    let l = ledger_of c.loop-at.ring c.loop-at.slots in
-    let r : Ran = record { written = c.loop-at.written; fault = None } in
-    let rest =
-    carries_none c.args.script.now c.loop-at.at l c.loop-at.out c.loop-at.written c.loop-at.invariant.1
-    r c.loop-at-test.false refl refl in
-    carries_at c.args.script.now c.args.at _ _ _ _ _ _ (c.new-ring.ensures.ledger _) (c.loop-at.invariant.3 c.loop-at.out r rest)
+    let was = c.loop-found.invariant in
+    let script = c.into_iter-found-iterator.result.script.now in
+    let r : Ran = record { written = c.loop-found.written; fault = None } in
+    let none = none-given script c.loop-found.found-iterator c.next.new.self was.script c.in-None.ensures.steps in
+    let rest = carries_none script c.loop-found.found-iterator.next (ledger_in c.loop-found.session) c.loop-found.out c.loop-found.written r none refl refl in
+    let whole = was.rest c.loop-found.out r rest in
+    begun_at c.args.records c.into_iter-found-iterator.result _ _ _ _ _ _ c.into_iter-found-iterator.ensures.into_iter_gives c.new-session.ensures whole

@@ -1,12 +1,17 @@
-use Rattle.std.proofs.Common.{◌≡◌, ◌-◌, ◌≤◌, length}
+use Rattle.std.proofs.Common.{◌≡◌}
 use Rattle.std.specs.Result.{result_err}
-use Rattle.script.specs.Records.{meaning, rest_of}
+use Rattle.script.specs.Drawn.{records_left}
+use Rattle.script.specs.Records.{meaning}
+use Rattle.script.proofs.Draws.{Within}
 use Rattle.script.proofs.check.check.Given as goal
 
 -- the fault of the whole, if any, is still to come
-abbrev pub invariant-loop-size : goal.invariant-loop-size
-invariant-loop-size l =
-    (l.at ≤ length l.script) × (result_err (meaning l.script) ≡ result_err (rest_of l.script l.at))
-
-abbrev pub decreases-loop-size : goal.decreases-loop-size
-decreases-loop-size l = length l.script - l.at
+abbrev pub invariant-loop-record : goal.invariant-loop-record
+invariant-loop-record l =
+    record {
+      can : (goal.iterator-loop-record).can_next l.record-iterator;
+      ends : (goal.iterator-loop-record).is_finite l.record-iterator;
+      script : l.record-iterator.script.now ≡ l.script;
+      within : Within l.script l.record-iterator.next;
+      fault : result_err (meaning l.script) ≡ result_err (records_left l.script l.record-iterator.next);
+    }
