@@ -1,6 +1,7 @@
 -- A read hands out no more events than there are slots.
-use Rattle.std.proofs.Common.{◌≡◌, ℕ, ◌+◌, ◌-◌, ◌<◌, ◌≤◌, Bool, true, false, cond, eqb, List, ◌++◌, length, get_or, Some, Option, sym, ap, ◌∙◌, mod-lt, arith, length-take}
-use Rattle.ledger.specs.Ledger.{Ledger, Answer, outcome}
+use Rattle.std.proofs.Common.{◌≡◌, ℕ, ◌+◌, ◌-◌, ◌<◌, ◌≤◌, Bool, true, false, cond, eqb, List, ◌++◌, length, get_or, sym, ap, ◌∙◌, mod-lt, arith, length-take, min, drop, length-append}
+use Rattle.std.proofs.lemmas.List.{take_all}
+use Rattle.ledger.specs.Ledger.{Ledger, outcome}
 use Rattle.ledger.specs.Ledger.Call.{read}
 use Rattle.ledger.specs.Ledger.Answer.{handed}
 use Rattle.ledger.proofs.Refusals.{by_outcome, meets}
@@ -42,9 +43,9 @@ module _ {E : Type 0} where
       let cut = length-take v.left (v.first.now ++ v.second.now) in
       omega (arith, runs.left, r.room)
 
-  -- the events of the log are those that the read handed out
-  pub hands-logged : (m : Ledger E) (x : Answer E × Ledger E) (xs ys : List E) → ys ≡ xs → (handed xs, m) ≡ x → ◌≡◌ {A = Option (Answer E) × Ledger E} (Some (handed ys), m) (Some x.0, x.1)
-  hands-logged m x xs ys e t =
-      let logged : List E → Option (Answer E) × Ledger E = λ zs. (Some (handed zs), m) in
-      let made : Answer E × Ledger E → Option (Answer E) × Ledger E = λ y. (Some y.0, y.1) in
-      ap logged e ∙ ap made t
+  -- a view of runs is all of them
+  pub unread-runs : (slots : List E) (from count size : ℕ) (v : View E) → Runs slots from count size v → unread v ≡ v.first.now ++ v.second.now
+  unread-runs slots from count size v runs =
+      let a = ap length runs.first ∙ length-take (min count (size - from)) (drop from slots) in
+      let b = ap length runs.second ∙ length-take (count - (size - from)) (drop 0 slots) in
+      take_all v.left (v.first.now ++ v.second.now) (simp length-append (omega (arith, runs.left)))
