@@ -2,4 +2,5 @@ pub mod Counting
 pub mod Faults
 pub mod Legs
 pub mod Means
+pub mod Texts
 pub mod Tickets

@@ -1,5 +1,5 @@
 -- The events of a spread ticket. Assumes nothing.
-use Rattle.std.specs.Prelude.{◌≡◌, ℕ, suc, ◌≤◌, List, [], ◌∷◌, ◌++◌, map, length, take, drop}
+use Rattle.std.specs.Prelude.{◌≡◌, ℕ, suc, ◌≤◌, List, [], ◌∷◌, ◌++◌, map, length}
 use Rattle.source.specs.declared.event.Leg.{Leg}
 use Rattle.source.specs.declared.event.TicketEvent.{TicketEvent}
 use Rattle.source.specs.declared.event.TicketEvent.TheVariants as event
@@ -20,7 +20,7 @@ ticket_events ticket today legs = ticket_rest stage.Header ticket (live_legs tod
 
 -- the supplied legs that were not looked at yet
 abbrev pub legs_left : Ticket → List Leg
-legs_left t = drop t.at (take 256 t.legs.now)
+legs_left t = t.legs.rest.now
 
 abbrev pub legs_among : List TicketEvent → ℕ
 legs_among [] = 0
@@ -38,5 +38,5 @@ HeaderCounts (event.Done ticket ∷ es) = ⊥
 -- what the making of a ticket promises
 pub record Made (ticket today : ℕ) (legs : List Leg) (t : Ticket) : Type 0 where
   pub few : length legs ≤ 256
-  pub events : ticket_rest t.stage t.ticket (live_legs t.today (legs_left t)) ≡ ticket_events ticket today legs
-  pub honest : HeaderCounts (ticket_rest t.stage t.ticket (live_legs t.today (legs_left t)))
+  pub events : ticket_rest t.stage t.ticket (live_legs t.legs.today (legs_left t)) ≡ ticket_events ticket today legs
+  pub honest : HeaderCounts (ticket_rest t.stage t.ticket (live_legs t.legs.today (legs_left t)))

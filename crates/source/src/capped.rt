@@ -20,8 +20,7 @@ impl<S> Capped<S> {
     pub fn into_inner(self) -> S
         ensures { result ≡ self.below }
     {
-        let Capped { below, left: _ } = self;
-        below
+        self.below
     }
 }
 
@@ -38,12 +37,8 @@ impl<E, S: Source<E>> Source<E> for Capped<S> {
         if self.left == 0 {
             return None;
         }
-        match self.below.next() {
-            Some(event) => {
-                self.left -= 1;
-                Some(event)
-            }
-            None => None,
-        }
+        let event = self.below.next()?;
+        self.left -= 1;
+        Some(event)
     }
 }

@@ -6,7 +6,7 @@ use crate::fault::Fault;
 use crate::slice::Slice;
 
 // The first events of a buffer. The count that is kept is the length of the part still to draw; the buffer keeps its
-// content.
+// content. A type of its own beside `Slice`, since its making may be refused.
 #[derive(Drop)]
 pub struct Drain<'a, E> {
     rest: Slice<'a, E>,

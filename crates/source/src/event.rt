@@ -1,5 +1,8 @@
-ghost use Rattle.std.specs.Prelude.{◌≡◌};
+ghost use Rattle.std.specs.Prelude.{◌≡◌, Some};
 ghost use Rattle.source.specs.Legs.{live};
+ghost use Rattle.source.specs.Texts.{quote_text, leg_text, ticket_event_text};
+
+use std::fmt;
 
 // An event that is only a number.
 pub type Number = u32;
@@ -10,6 +13,19 @@ pub struct Quote {
     pub instrument: u32,
     pub bid: i64,
     pub ask: i64,
+}
+
+impl fmt::Display for Quote {
+    ghost output = { λ q. Some (quote_text q) };
+
+    fn fmt<W: fmt::Write>(&self, f: &mut fmt::Formatter<W>) -> fmt::Result {
+        let Quote {
+            instrument,
+            bid,
+            ask,
+        } = *self;
+        write!(f, "instrument {instrument}: bid {bid}, ask {ask}")
+    }
 }
 
 // One side of a spread. The quantity is below zero when sold; the expiry is a day number, 1 January 2000 being day 0.
@@ -29,10 +45,41 @@ impl Leg {
     }
 }
 
+impl fmt::Display for Leg {
+    ghost output = { λ l. Some (leg_text l) };
+
+    fn fmt<W: fmt::Write>(&self, f: &mut fmt::Formatter<W>) -> fmt::Result {
+        let Leg {
+            instrument,
+            quantity,
+            expiry,
+        } = *self;
+        write!(
+            f,
+            "{quantity} of instrument {instrument}, expiry on day {expiry}"
+        )
+    }
+}
+
 // What a spread ticket is sent as: a header with the count of the legs that follow, the legs, and an end mark.
 #[derive(Clone, Copy, PartialEq, Eq, Debug)]
 pub enum TicketEvent {
     Header { ticket: u32, legs: u16 },
     Leg(Leg),
     Done { ticket: u32 },
+}
+
+impl fmt::Display for TicketEvent {
+    ghost output = { λ e. Some (ticket_event_text e) };
+
+    fn fmt<W: fmt::Write>(&self, f: &mut fmt::Formatter<W>) -> fmt::Result {
+        match self {
+            TicketEvent::Header { ticket, legs } => write!(
+                f,
+                "ticket {ticket}: {legs} legs follow"
+            ),
+            TicketEvent::Leg(leg) => write!(f, "leg: {leg}"),
+            TicketEvent::Done { ticket } => write!(f, "ticket {ticket}: complete"),
+        }
+    }
 }

@@ -1,5 +1,8 @@
-ghost use Rattle.std.specs.Prelude.{◌≡◌};
+ghost use Rattle.std.specs.Prelude.{◌≡◌, Some, decimal};
 ghost use Rattle.source.specs.Faults.{number_of};
+
+use std::error::Error;
+use std::fmt;
 
 // Why a call is refused. Each case has a number that users and hosts may rely on.
 #[derive(Clone, Copy, PartialEq, Eq, Debug)]
@@ -29,9 +32,21 @@ pub enum Fault {
 }
 
 impl Fault {
+    // Plainer at each call than a `From<Fault> for u8`.
     pub fn number(self) -> u8
         ensures { result ≡ number_of self }
     {
         self as u8
     }
 }
+
+// A fault prints as its number, which is what users are shown.
+impl fmt::Display for Fault {
+    ghost output = { λ f. Some (decimal (number_of f)) };
+
+    fn fmt<W: fmt::Write>(&self, f: &mut fmt::Formatter<W>) -> fmt::Result {
+        write!(f, "{}", self.number())
+    }
+}
+
+impl Error for Fault {}

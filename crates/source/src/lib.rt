@@ -7,6 +7,7 @@ pub mod capped;
 pub mod drain;
 pub mod event;
 pub mod fault;
+mod live;
 pub mod range;
 pub mod single;
 pub mod slice;

@@ -4,7 +4,8 @@ ghost use Rattle.source.specs.Counting.{up_from};
 use crate::Source;
 use crate::event::Number;
 
-// The numbers from a start up to but not including an end; none unless the start is below the end.
+// The numbers from a start up to but not including an end; none unless the start is below the end. It is copied, as a
+// range of std is not.
 #[derive(Clone, Copy)]
 pub struct Range {
     start: Number,

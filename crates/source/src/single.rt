@@ -21,7 +21,7 @@ impl<E: Copy> Source<E> for Single<E> {
     ghost means = { λ s. option_to_list s.event };
 
     fn len(&self) -> usize {
-        if self.event.is_some() { 1 } else { 0 }
+        usize::from(self.event.is_some())
     }
 
     fn next(&mut self) -> Option<E> {

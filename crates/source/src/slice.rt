@@ -24,9 +24,7 @@ impl<'a, E: Copy> Source<E> for Slice<'a, E> {
     }
 
     fn next(&mut self) -> Option<E> {
-        let Some((event, rest)) = self.rest.split_first() else {
-            return None;
-        };
+        let (event, rest) = self.rest.split_first()?;
         self.rest = rest;
         Some(*event)
     }

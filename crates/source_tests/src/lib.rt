@@ -16,17 +16,13 @@ mod tests {
 
     // Draws into `out` until the source gives none, and answers how many events came.
     fn draw<E: Copy, S: Source<E>>(source: &mut S, out: &mut [E]) -> usize {
-        let mut count: usize = 0;
-        for slot in out.iter_mut() {
-            match source.next() {
-                Some(event) => {
-                    *slot = event;
-                    count = count.saturating_add(1);
-                }
-                None => return count,
-            }
+        for (count, slot) in out.iter_mut().enumerate() {
+            let Some(event) = source.next() else {
+                return count;
+            };
+            *slot = event;
         }
-        count
+        out.len()
     }
 
     fn leg(expiry: u16) -> Leg {
@@ -65,6 +61,28 @@ mod tests {
     }
 
     #[test]
+    fn texts(rt: HostRuntime) -> Result<(), Fail> {
+        let quote = Quote {
+            instrument: 1,
+            bid: -5,
+            ask: 10_000,
+        };
+        let text = quote.to_string(rt.alloc())?;
+        assert_eq!(rt; text.as_str(), "instrument 1: bid -5, ask 10000");
+        let text = leg(100).to_string(rt.alloc())?;
+        assert_eq!(rt; text.as_str(), "-1 of instrument 4, expiry on day 100");
+        let text = TicketEvent::Header { ticket: 7, legs: 3 }.to_string(rt.alloc())?;
+        assert_eq!(rt; text.as_str(), "ticket 7: 3 legs follow");
+        let text = TicketEvent::Leg(leg(100)).to_string(rt.alloc())?;
+        assert_eq!(rt; text.as_str(), "leg: -1 of instrument 4, expiry on day 100");
+        let text = TicketEvent::Done { ticket: 7 }.to_string(rt.alloc())?;
+        assert_eq!(rt; text.as_str(), "ticket 7: complete");
+        let text = Fault::OutputFull.to_string(rt.alloc())?;
+        assert_eq!(rt; text.as_str(), "16");
+        Ok(())
+    }
+
+    #[test]
     fn ranges(rt: HostRuntime) {
         let mut out = [0u32; 4];
         let mut backward = Range::new(7, 5);
@@ -81,11 +99,8 @@ mod tests {
         assert_eq!(rt; Range::new(0, 4_294_967_295).len(), 4_294_967_295);
     }
 
-    fn refusal<T: Drop>(r: Result<T, Fault>) -> u8 {
-        match r {
-            Ok(_) => 0,
-            Err(fault) => fault.number(),
-        }
+    fn refusal<T: Drop>(answer: Result<T, Fault>) -> Option<u8> {
+        answer.err().map(|fault| fault.number())
     }
 
     #[test]
@@ -100,7 +115,7 @@ mod tests {
         assert_eq!(rt; out, [6, 7, 0, 0]);
         assert_eq!(rt; buffer, [5, 6, 7]);
         assert_eq!(rt; Drain::new(&buffer, 0)?.len(), 0);
-        assert_eq!(rt; refusal(Drain::new(&buffer, 4)), 10);
+        assert_eq!(rt; refusal(Drain::new(&buffer, 4)), Some(10));
         Ok(())
     }
 
@@ -154,7 +169,7 @@ mod tests {
         let legs = [leg(100); 257];
         assert_eq!(rt; Ticket::new(1, 100, &legs[0..256])?.len(), 258);
         assert_eq!(rt; Ticket::new(1, 100, &legs[0..0])?.len(), 2);
-        assert_eq!(rt; refusal(Ticket::new(1, 100, &legs)), 11);
+        assert_eq!(rt; refusal(Ticket::new(1, 100, &legs)), Some(11));
         Ok(())
     }
 }

@@ -9,122 +9,80 @@ use std::io;
 const TODAY: u16 = 9800;
 
 // What came of a ticket: the count in its header, and how many legs and events followed.
-#[derive(Drop)]
+#[derive(Default, Drop)]
 struct Tally {
     promised: u32,
     legs: u32,
     events: usize,
 }
 
-fn note(rt: &HostRuntime, tally: &mut Tally, event: TicketEvent) -> io::Result<()> {
-    tally.events = tally.events.saturating_add(1);
-    match event {
-        TicketEvent::Header { ticket, legs } => {
-            tally.promised = u32::from(legs);
-            println!(rt; "  header of ticket {ticket}: {legs} legs")
+impl Tally {
+    fn note(&mut self, rt: &HostRuntime, event: TicketEvent) -> io::Result<()> {
+        self.events = self.events.saturating_add(1);
+        match event {
+            TicketEvent::Header { ticket, legs } => {
+                self.promised = u32::from(legs);
+                println!(rt; "  header of ticket {ticket}: {legs} legs")
+            }
+            TicketEvent::Leg(leg) => {
+                self.legs = self.legs.saturating_add(1);
+                println!(rt;
+                    "  leg: instrument {}, quantity {}, expires on day {}",
+                    leg.instrument, leg.quantity, leg.expiry
+                )
+            }
+            TicketEvent::Done { ticket } => println!(rt; "  end of ticket {ticket}"),
         }
-        TicketEvent::Leg(leg) => {
-            tally.legs = tally.legs.saturating_add(1);
-            let Leg {
-                instrument,
-                quantity,
-                expiry,
-            } = leg;
-            println!(rt;
-                "  leg: instrument {instrument}, quantity {quantity}, expires on day {expiry}"
-            )
-        }
-        TicketEvent::Done { ticket } => println!(rt; "  end of ticket {ticket}"),
     }
 }
 
 fn send(rt: &HostRuntime, mut source: Ticket) -> io::Result<()> {
     let announced = source.len();
     println!(rt; "  announced: {announced} events")?;
-    let mut tally = Tally {
-        promised: 0,
-        legs: 0,
-        events: 0,
-    };
+    let mut tally = Tally::default();
     for _ in 0..announced {
         if let Some(event) = source.next() {
-            note(rt, &mut tally, event)?;
+            tally.note(rt, event)?;
         }
     }
-    let Tally {
-        promised,
-        legs,
-        events,
-    } = tally;
-    let agree = if promised == legs && announced == events {
+    let agree = if tally.promised == tally.legs && announced == tally.events {
         "they agree"
     } else {
         "THEY DIFFER"
     };
     println!(rt;
-        "  promised {promised} legs, sent {legs}; announced {announced} events, sent {events}: {agree}"
+        "  promised {} legs, sent {}; announced {announced} events, sent {}: {agree}",
+        tally.promised, tally.legs, tally.events
     )
 }
 
 fn show(rt: &HostRuntime, ticket: u32, legs: &[Leg]) -> io::Result<()> {
-    let supplied = legs.len();
-    println!(rt; "ticket {ticket} on day {TODAY}, {supplied} legs supplied")?;
+    println!(rt;
+        "ticket {ticket} on day {TODAY}, {} legs supplied",
+        legs.len()
+    )?;
     match Ticket::new(ticket, TODAY, legs) {
         Ok(source) => send(rt, source),
-        Err(fault) => {
-            let number = fault.number();
-            println!(rt; "  refused: {number}")
-        }
+        Err(fault) => println!(rt; "  refused: {fault}"),
+    }
+}
+
+fn leg(instrument: u32, quantity: i32, expiry: u16) -> Leg {
+    Leg {
+        instrument,
+        quantity,
+        expiry,
     }
 }
 
 fn main(rt: HostRuntime) -> io::Result<()> {
     let spread = [
-        Leg {
-            instrument: 501,
-            quantity: 10,
-            expiry: 9800,
-        },
-        Leg {
-            instrument: 502,
-            quantity: -20,
-            expiry: 9799,
-        },
-        Leg {
-            instrument: 503,
-            quantity: -20,
-            expiry: 9830,
-        },
-        Leg {
-            instrument: 504,
-            quantity: 10,
-            expiry: 9861,
-        },
+        leg(501, 10, 9800),
+        leg(502, -20, 9799),
+        leg(503, -20, 9830),
+        leg(504, 10, 9861),
     ];
     show(&rt, 31, &spread)?;
-    show(
-        &rt,
-        32,
-        &[
-            Leg {
-                instrument: 505,
-                quantity: 1,
-                expiry: 9700,
-            },
-            Leg {
-                instrument: 506,
-                quantity: -1,
-                expiry: 9799,
-            },
-        ],
-    )?;
-    show(
-        &rt,
-        33,
-        &[Leg {
-            instrument: 507,
-            quantity: 1,
-            expiry: 9900,
-        }; 257],
-    )
+    show(&rt, 32, &[leg(505, 1, 9700), leg(506, -1, 9799)])?;
+    show(&rt, 33, &[leg(507, 1, 9900); 257])
 }
