@@ -4,4 +4,3 @@ pub mod Reading
 pub mod Runs
 pub mod Steps
 pub mod Whole
-pub mod Writes

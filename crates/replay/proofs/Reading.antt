@@ -41,10 +41,3 @@ module _ {E : Type 0} where
       let few = unread-few r.last.index r.last.size r.generation reader (omega (arith, r.small)) in
       let both = length-append v.first.now v.second.now in
       omega (arith, runs.left, r.room)
-
-  -- the events of the log are those that the read handed out
-  pub hands-logged : (m : Ledger E) (x : Answer E × Ledger E) (xs ys : List E) → ys ≡ xs → (handed xs, m) ≡ x → ◌≡◌ {A = Option (Answer E) × Ledger E} (Some (handed ys), m) (Some x.0, x.1)
-  hands-logged m x xs ys e t =
-      let logged : List E → Option (Answer E) × Ledger E = λ zs. (Some (handed zs), m) in
-      let made : Answer E × Ledger E → Option (Answer E) × Ledger E = λ y. (Some y.0, y.1) in
-      ap logged e ∙ ap made t

@@ -1,3 +1,4 @@
+pub mod Lending
 pub mod Logs
 pub mod Runs
 pub mod Steps

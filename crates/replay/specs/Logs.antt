@@ -1,6 +1,8 @@
 -- Answers whose events stand in a log, and what every run keeps. Assumes nothing.
 use Rattle.std.specs.Prelude.{◌≡◌, ℕ, ◌+◌, ◌*◌, ◌<◌, ◌≤◌, ◌↔◌, List, [], ◌∷◌, length, take, drop, Some, None, Ok, Err, Option, Result}
 use Rattle.source.specs.Faults.{number_of}
+use Rattle.source.specs.declared.fault.Fault.{Fault}
+use Rattle.source.specs.declared.fault.Fault.TheVariants.{OtherSlots}
 use Rattle.ledger.specs.Ledger.{Ledger, Answer, Opening, just_opened, opening_refusal, waiting_for, Open}
 use Rattle.ledger.specs.Ledger.Answer.{refused, registered, wrote, handed, closed}
 use Rattle.ledger.specs.Sound.{Sound}
@@ -12,22 +14,32 @@ use Rattle.shrev.specs.declared.channel.EventChannel.{EventChannel}
 use Rattle.shrev.specs.declared.id.ReaderId.{ReaderId}
 use Rattle.shrev.specs.Channels.{ledger_of}
 use Rattle.replay.specs.declared.words.Call.{Call}
-use Rattle.replay.specs.declared.words.Note.{Note}
-use Rattle.replay.specs.declared.words.Note.TheVariants.{Refused, Registered, Wrote, Handed, Closed, NotMade}
+use Rattle.replay.specs.declared.words.Reply.{Reply}
+use Rattle.replay.specs.declared.words.Reply.TheVariants.{Registered, Wrote, Handed, Closed}
 use Rattle.replay.specs.declared.words.NotRun.{NotRun}
 use Rattle.replay.specs.declared.words.NotRun.TheVariants.{FewNotes, ShortLog, Denied}
 use Rattle.replay.specs.declared.words.Replayed.{Replayed}
 use Rattle.replay.specs.Steps.{ledger_held}
 use Rattle.replay.specs.Runs.{State, state, Took, Ran}
 
+-- what a call came to, or none where it was not made
+abbrev pub Note : Type 0
+Note = Option (Result Reply Fault)
+
 -- how many events of the log a note counts
 abbrev pub events : Note → ℕ
-events (Refused f) = 0
-events (Registered n) = 0
-events (Wrote w) = 0
-events (Handed n) = n
-events Closed = 0
-events NotMade = 0
+events (Some (Ok (Registered n))) = 0
+events (Some (Ok (Wrote w))) = 0
+events (Some (Ok (Handed n))) = n
+events (Some (Ok Closed)) = 0
+events (Some (Err f)) = 0
+events None = 0
+
+-- the call was refused because of other slots, or not made
+abbrev pub IsTurnedAway : Note → Type 0
+IsTurnedAway (Some (Err f)) = number_of f ≡ number_of OtherSlots
+IsTurnedAway (Some (Ok x)) = ⊥
+IsTurnedAway None = Unit {0}
 
 abbrev pub all_events : List Note → ℕ
 all_events [] = 0
@@ -36,12 +48,12 @@ all_events (a ∷ rest) = events a + all_events rest
 module _ {E : Type 0} where
   -- the answer that a note stands for, with the events that it counts
   abbrev pub noted : Note → List E → Option (Answer E)
-  noted (Refused f) xs = Some (refused (number_of f))
-  noted (Registered n) xs = Some (registered n)
-  noted (Wrote w) xs = Some (wrote (record { count = w.count; size = w.size }))
-  noted (Handed n) xs = Some (handed xs)
-  noted Closed xs = Some closed
-  noted NotMade xs = None
+  noted (Some (Ok (Registered n))) xs = Some (registered n)
+  noted (Some (Ok (Wrote w))) xs = Some (wrote (record { count = w.count; size = w.size }))
+  noted (Some (Ok (Handed n))) xs = Some (handed xs)
+  noted (Some (Ok Closed)) xs = Some closed
+  noted (Some (Err f)) xs = Some (refused (number_of f))
+  noted None xs = None
 
   -- the answers of a list of notes, each with its part of the log, one after another
   abbrev pub answers_of : List Note → List E → List (Option (Answer E))
@@ -73,12 +85,11 @@ module _ {E : Type 0} where
         → Equal (after end vs) (after (at_end k) ws) ↔ (accepted vs ≡ accepted ws)
 
 module _ {E S : Type 0} (means : S → List E) (beneath : S → List (List E)) (others : ℕ) where
-  -- one call, whose events stand in the log from place `at` on; the rest of the log stays
-  pub record Logged (p : State E) (c : Call S) (log : List E) (at : ℕ) (a : Note) (log' : List E) (d : Call S) (q : State E) : Type 0 where
-    pub front : take at log' ≡ take at log
-    pub back : drop (at + events a) log' ≡ drop (at + events a) log
+  -- one call, whose events stand at the front of a log; the rest of the log stays
+  pub record Logged (p : State E) (c : Call S) (log : List E) (a : Note) (log' : List E) (d : Call S) (q : State E) : Type 0 where
+    pub back : drop (events a) log' ≡ drop (events a) log
     pub few : events a ≤ length p.slots
-    pub took : Took means beneath others p c (noted a (take (events a) (drop at log'))) d q
+    pub took : Took means beneath others p c (noted a (take (events a) log')) d q
 
   -- every call of a list, with a note for each, and their events in the log from its start; notes and log beyond stay
   pub record LoggedAll (p : State E) (cs : List (Call S)) (notes : List Note) (log : List E) (n : ℕ) (notes' : List Note) (log' : List E) (ds : List (Call S)) (q : State E) : Type 0 where

@@ -3,25 +3,19 @@ ghost use Rattle.replay.specs.Runs.{state};
 ghost use Rattle.replay.specs.Logs.{events, LoggedAll, desk, Replays};
 
 use crate::step::step;
-use crate::words::{Call, NotRun, Note, Replayed};
+use crate::words::{Call, NotRun, Note, Replayed, Reply};
 use shrev::channel::EventChannel;
 use shrev::id::ReaderId;
 use source::Source;
 use storage::util::Issuer;
 
-impl Note {
-    // How many events of the log it counts.
-    pub fn events(&self) -> usize
-        ensures { result ≡ events self.now }
-    {
-        match self {
-            Note::Handed(n) => *n,
-            Note::Refused(_)
-            | Note::Registered(_)
-            | Note::Wrote(_)
-            | Note::Closed
-            | Note::NotMade => 0,
-        }
+// How many events of the log a note counts.
+pub fn count_in(note: &Note) -> usize
+    ensures { result ≡ events note.now }
+{
+    match note {
+        Some(Ok(Reply::Handed(count))) => *count,
+        _ => 0,
     }
 }
 
@@ -41,10 +35,10 @@ fn run<E: Copy, S: Source<E>>(
     ensures others { others.new ≡ others.old }
 {
     let mut at = 0;
-    for i in 0..calls.len() {
-        let note = step(channel, slots, others, ids, &mut calls[i], log, at);
+    for (i, call) in calls.iter_mut().enumerate() {
+        let note = step(channel, slots, others, ids, call, &mut log[at..]);
         notes[i] = note;
-        at += note.events();
+        at += count_in(&note);
     }
     at
 }
@@ -68,18 +62,14 @@ pub fn replay<E: Copy, S: Source<E>>(
     if notes.len() < calls.len() {
         return Err(NotRun::FewNotes);
     }
-    let Some(room) = calls.len().checked_mul(slots.len()) else {
-        return Err(NotRun::ShortLog);
-    };
+    let room = calls
+        .len()
+        .checked_mul(slots.len())
+        .ok_or(NotRun::ShortLog)?;
     if log.len() < room {
         return Err(NotRun::ShortLog);
     }
-    match issuer.open(size, slots.len()) {
-        Ok(grant) => {
-            let mut channel = EventChannel::new(grant);
-            let events = run(&mut channel, slots, others, ids, calls, notes, log);
-            Ok(Replayed { channel, events })
-        }
-        Err(fault) => Err(NotRun::Denied(fault)),
-    }
+    let mut channel = EventChannel::new(issuer.open(size, slots.len())?);
+    let events = run(&mut channel, slots, others, ids, calls, notes, log);
+    Ok(Replayed { channel, events })
 }

@@ -1,25 +1,36 @@
-ghost use Rattle.std.specs.Prelude.{◌≡◌, ◌+◌, ◌≤◌, List, length, take, drop, Some, ◌≢◌};
+ghost use Rattle.std.specs.Prelude.{◌≡◌, ◌≢◌, ◌+◌, ◌<◌, ◌≤◌, ◌++◌, List, length, take, drop, Some, MatchOption, IfSome, slice_index_or, slice_set};
+ghost use Rattle.std.specs.Borrow.{sem};
 ghost use Rattle.ledger.specs.Ledger.Call.{write as writing, read as reading};
 ghost use Rattle.shrev.specs.Channels.{ledger_of};
+ghost use Rattle.replay.specs.Lending.{LendsPlace};
 ghost use Rattle.replay.specs.Runs.{replies, state, registers_at, reads_at, closes_at, IdsRegistered, ids_closed, Drawn, Unmoved};
-ghost use Rattle.replay.specs.Logs.{noted, events, Logged};
+ghost use Rattle.replay.specs.Logs.{noted, events, IsTurnedAway, Logged};
 ghost use Rattle.replay.specs.Steps.{with_slots};
 
-use crate::words::{Call, Note};
+use crate::words::{Call, Note, Reply};
 use shrev::channel::EventChannel;
 use shrev::id::ReaderId;
 use source::Source;
-use std::mem;
+use source::fault::Fault;
+
+// A place of a table. The library's `get_mut` says nothing of what the table ends as.
+fn place_in<T>(table: &mut [T], place: usize) -> Option<&mut T>
+    ensures found { MatchOption result (length table.old ≤ place) (λ x. (place < length table.old) × ((d : T) → slice_index_or table.old place d ≡ x.now)) }
+    ensures same { IfSome result (λ x. slice_set table.old place x.now ≡ table.old) }
+    ensures* lends { sem 𝓛 (LendsPlace T.row table.entry place result) }
+{
+    if place >= table.len() {
+        return None;
+    }
+    Some(&mut table[place])
+}
 
 // Puts an id into a place, which its callers have found or made empty.
 fn put<E>(place: &mut Option<ReaderId<E>>, id: ReaderId<E>)
     ensures { place.new ≡ Some id }
 {
-    match mem::replace(place, Some(id)) {
-        Some(old) => {
-            let _number = old.give_up();
-        }
-        None => {}
+    if let Some(old) = place.replace(id) {
+        let _number = old.give_up();
     }
 }
 
@@ -34,16 +45,17 @@ fn register_at<E>(
     ensures ids { (xs : List E) → IdsRegistered channel.old.ring.instance ids.old place (noted result xs) ids.new }
     ensures none { events result ≡ 0 }
 {
-    if place >= ids.len() || ids[place].is_some() {
-        return Note::NotMade;
+    let held = place_in(ids, place)?;
+    if held.is_some() {
+        return None;
     }
     match channel.register_reader() {
         Ok(id) => {
             let number = id.number();
-            put(&mut ids[place], id);
-            Note::Registered(number)
+            put(held, id);
+            Some(Ok(Reply::Registered(number)))
         }
-        Err(fault) => Note::Refused(fault),
+        Err(fault) => Some(Err(fault)),
     }
 }
 
@@ -54,98 +66,64 @@ fn close_at<E>(channel: &mut EventChannel<E>, ids: &mut [Option<ReaderId<E>>], p
     ensures ids { (xs : List E) → ids.new ≡ ids_closed ids.old place (noted result xs) }
     ensures none { events result ≡ 0 }
 {
-    if place >= ids.len() {
-        return Note::NotMade;
-    }
-    let held = &mut ids[place];
-    match held.take() {
-        None => Note::NotMade,
-        Some(id) => match channel.close(id) {
-            Ok(()) => Note::Closed,
-            Err((fault, back)) => {
-                put(held, back);
-                Note::Refused(fault)
-            }
-        },
+    let held = place_in(ids, place)?;
+    let id = held.take()?;
+    match channel.close(id) {
+        Ok(()) => Some(Ok(Reply::Closed)),
+        Err((fault, back)) => {
+            put(held, back);
+            Some(Err(fault))
+        }
     }
 }
 
-// Writes a source's events into the channel's own slots.
-fn write_own<E: Copy, S: Source<E>>(
+// Writes a source's events into slots: the channel's own, or others of another count, which are refused whatever the
+// channel's own hold.
+fn write<E: Copy, S: Source<E>>(
     channel: &mut EventChannel<E>,
     slots: &mut [E],
     source: &mut S,
-) -> Note
-    ensures told { (xs : List E) → (noted result xs, ledger_of channel.new slots.new) ≡ replies (ledger_of channel.old slots.old) (Some (writing (length slots.old) (S.Source.means source.old))) }
-    ensures unmoved { (xs : List E) → Unmoved (noted result xs) (with_slots channel.old slots.old) (with_slots channel.new slots.new) }
-    ensures source { (xs : List E) → Drawn S.Source.means S.Source.beneath source.old (noted result xs) source.new }
-    ensures none { events result ≡ 0 }
+) -> Result<Reply, Fault>
+    ensures told { (xs : List E) → (noted (Some result) xs, ledger_of channel.new slots.new) ≡ replies (ledger_of channel.old slots.old) (Some (writing (length slots.old) (S.Source.means source.old))) }
+    ensures unmoved { (xs : List E) → Unmoved (noted (Some result) xs) (with_slots channel.old slots.old) (with_slots channel.new slots.new) }
+    ensures elsewhere { length slots.old ≢ channel.old.ring.slots → IsTurnedAway (Some result) × (slots.new ≡ slots.old) }
+    ensures source { (xs : List E) → Drawn S.Source.means S.Source.beneath source.old (noted (Some result) xs) source.new }
+    ensures none { events (Some result) ≡ 0 }
 {
-    match channel.iter_write(slots, source) {
-        Ok(written) => Note::Wrote(written),
-        Err(fault) => Note::Refused(fault),
-    }
+    Ok(Reply::Wrote(channel.iter_write(slots, source)?))
 }
 
-// Writes into slots of another count than the channel's: refused, whatever the channel's own slots hold.
-fn write_other<E: Copy, S: Source<E>>(
-    channel: &mut EventChannel<E>,
-    others: &mut [E],
-    source: &mut S,
-) -> Note
-    requires { length others.old ≢ channel.old.ring.slots }
-    ensures told { (own xs : List E) → (noted result xs, ledger_of channel.new own) ≡ replies (ledger_of channel.old own) (Some (writing (length others.old) (S.Source.means source.old))) }
-    ensures unmoved { (xs : List E) → Unmoved (noted result xs) channel.old channel.new }
-    ensures others { others.new ≡ others.old }
-    ensures source { (xs : List E) → Drawn S.Source.means S.Source.beneath source.old (noted result xs) source.new }
-    ensures none { events result ≡ 0 }
+// Copies two runs of events into the front of the log, and answers how many they are.
+fn log_all<E: Copy>(log: &mut [E], first: &[E], second: &[E]) -> usize
+    requires { length first.now + length second.now ≤ length log.old }
+    ensures count { result ≡ length first.now + length second.now }
+    ensures part { take result log.new ≡ first.now ++ second.now }
+    ensures back { drop result log.new ≡ drop result log.old }
 {
-    match channel.iter_write(others, source) {
-        Ok(_) => unreachable(),
-        Err(fault) => Note::Refused(fault),
-    }
+    let (front, rest) = log.split_at_mut(first.len());
+    front.copy_from_slice(first);
+    rest[..second.len()].copy_from_slice(second);
+    first.len() + second.len()
 }
 
-// Draws every event of a source into the log, from a place on, and answers how many they were.
-fn log_all<E: Copy, S: Source<E>>(log: &mut [E], at: usize, source: &mut S) -> usize
-    requires { at + length (S.Source.means source.old) ≤ length log.old }
-    ensures count { result ≡ length (S.Source.means source.old) }
-    ensures front { take at log.new ≡ take at log.old }
-    ensures part { take result (drop at log.new) ≡ S.Source.means source.old }
-    ensures back { drop (at + result) log.new ≡ drop (at + result) log.old }
-{
-    let mut n = 0;
-    while let Some(event) = source.next() {
-        let place = at + n;
-        log[place] = event;
-        n += 1;
-    }
-    n
-}
-
-// Reads with the channel's own slots. The events go to the log, from a place on.
-fn read_with<E: Copy>(
+// Reads with slots: the channel's own, or others of another count, which are refused whatever the channel's own hold. The
+// events go to the front of the log.
+fn read<E: Copy>(
     channel: &mut EventChannel<E>,
     slots: &[E],
     id: &mut ReaderId<E>,
     log: &mut [E],
-    at: usize,
-) -> Note
-    requires { at + length slots.now ≤ length log.old }
-    ensures told { (noted result (take (events result) (drop at log.new)), ledger_of channel.new slots.now) ≡ replies (ledger_of channel.old slots.now) (Some (reading (length slots.now) id.old.instance id.old.number)) }
-    ensures unmoved { (xs : List E) → Unmoved (noted result xs) channel.old channel.new }
-    ensures front { take at log.new ≡ take at log.old }
-    ensures back { drop (at + events result) log.new ≡ drop (at + events result) log.old }
-    ensures few { events result ≤ length slots.now }
+) -> Result<Reply, Fault>
+    requires { length slots.now ≡ channel.old.ring.slots → length slots.now ≤ length log.old }
+    ensures told { (noted (Some result) (take (events (Some result)) log.new), ledger_of channel.new slots.now) ≡ replies (ledger_of channel.old slots.now) (Some (reading (length slots.now) id.old.instance id.old.number)) }
+    ensures unmoved { (xs : List E) → Unmoved (noted (Some result) xs) channel.old channel.new }
+    ensures elsewhere { length slots.now ≢ channel.old.ring.slots → IsTurnedAway (Some result) }
+    ensures back { drop (events (Some result)) log.new ≡ drop (events (Some result)) log.old }
+    ensures few { events (Some result) ≤ length slots.now }
     ensures id { id.new ≡ id.old }
 {
-    match channel.read(slots, id) {
-        Ok(view) => {
-            let mut events = view;
-            Note::Handed(log_all(log, at, &mut events))
-        }
-        Err(fault) => Note::Refused(fault),
-    }
+    let (first, second) = channel.read(slots, id)?.parts();
+    Ok(Reply::Handed(log_all(log, first, second)))
 }
 
 // Reads by the id that stands in the place.
@@ -155,51 +133,22 @@ fn read_at<E: Copy>(
     ids: &mut [Option<ReaderId<E>>],
     place: usize,
     log: &mut [E],
-    at: usize,
 ) -> Note
-    requires { at + length slots.now ≤ length log.old }
-    ensures told { (noted result (take (events result) (drop at log.new)), ledger_of channel.new slots.now) ≡ replies (ledger_of channel.old slots.now) (reads_at (length slots.now) ids.old place) }
+    requires { length slots.now ≡ channel.old.ring.slots → length slots.now ≤ length log.old }
+    ensures told { (noted result (take (events result) log.new), ledger_of channel.new slots.now) ≡ replies (ledger_of channel.old slots.now) (reads_at (length slots.now) ids.old place) }
     ensures unmoved { (xs : List E) → Unmoved (noted result xs) channel.old channel.new }
-    ensures front { take at log.new ≡ take at log.old }
-    ensures back { drop (at + events result) log.new ≡ drop (at + events result) log.old }
+    ensures elsewhere { length slots.now ≢ channel.old.ring.slots → IsTurnedAway result }
+    ensures back { drop (events result) log.new ≡ drop (events result) log.old }
     ensures few { events result ≤ length slots.now }
     ensures ids { ids.new ≡ ids.old }
 {
-    if place >= ids.len() {
-        return Note::NotMade;
-    }
-    match &mut ids[place] {
-        None => Note::NotMade,
-        Some(id) => read_with(channel, slots, id, log, at),
-    }
+    let Some(id) = place_in(ids, place)? else {
+        return None;
+    };
+    Some(read(channel, slots, id, log))
 }
 
-// Reads with slots of another count than the channel's: refused, whatever the channel's own slots hold.
-fn read_other<E>(
-    channel: &mut EventChannel<E>,
-    others: &[E],
-    ids: &mut [Option<ReaderId<E>>],
-    place: usize,
-) -> Note
-    requires { length others.now ≢ channel.old.ring.slots }
-    ensures told { (own xs : List E) → (noted result xs, ledger_of channel.new own) ≡ replies (ledger_of channel.old own) (reads_at (length others.now) ids.old place) }
-    ensures unmoved { (xs : List E) → Unmoved (noted result xs) channel.old channel.new }
-    ensures ids { ids.new ≡ ids.old }
-    ensures none { events result ≡ 0 }
-{
-    if place >= ids.len() {
-        return Note::NotMade;
-    }
-    match &mut ids[place] {
-        None => Note::NotMade,
-        Some(id) => match channel.read(others, id) {
-            Ok(_) => unreachable(),
-            Err(fault) => Note::Refused(fault),
-        },
-    }
-}
-
-// Makes one call of a list.
+// Makes one call of a list. Calls are data, which the theorems range over, so this names the step for each.
 pub(crate) fn step<E: Copy, S: Source<E>>(
     channel: &mut EventChannel<E>,
     slots: &mut [E],
@@ -207,20 +156,19 @@ pub(crate) fn step<E: Copy, S: Source<E>>(
     ids: &mut [Option<ReaderId<E>>],
     call: &mut Call<S>,
     log: &mut [E],
-    at: usize,
 ) -> Note
-    requires { at + length slots.old ≤ length log.old }
-    ensures logged { Logged S.Source.means S.Source.beneath (length others.old) (state channel.old slots.old ids.old) call.old log.old at result log.new call.new (state channel.new slots.new ids.new) }
+    requires { length slots.old ≤ length log.old }
+    ensures logged { Logged S.Source.means S.Source.beneath (length others.old) (state channel.old slots.old ids.old) call.old log.old result log.new call.new (state channel.new slots.new ids.new) }
     ensures others { others.new ≡ others.old }
 {
     let elsewhere = others.len() != channel.slot_count();
     match call {
         Call::Register(place) => register_at(channel, ids, *place),
-        Call::Write(source) => write_own(channel, slots, source),
-        Call::WriteElsewhere(source) if elsewhere => write_other(channel, others, source),
-        Call::Read(place) => read_at(channel, slots, ids, *place, log, at),
-        Call::ReadElsewhere(place) if elsewhere => read_other(channel, others, ids, *place),
-        Call::WriteElsewhere(_) | Call::ReadElsewhere(_) => Note::NotMade,
+        Call::Write(source) => Some(write(channel, slots, source)),
+        Call::WriteElsewhere(source) if elsewhere => Some(write(channel, others, source)),
+        Call::Read(place) => read_at(channel, slots, ids, *place, log),
+        Call::ReadElsewhere(place) if elsewhere => read_at(channel, others, ids, *place, log),
+        Call::WriteElsewhere(_) | Call::ReadElsewhere(_) => None,
         Call::Close(place) => close_at(channel, ids, *place),
     }
 }

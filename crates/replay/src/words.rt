@@ -1,3 +1,6 @@
+ghost use Rattle.replay.specs.declared.words.NotRun.TheVariants.{Denied};
+ghost use Rattle.std.specs.Prelude.{◌≡◌};
+
 use shrev::channel::EventChannel;
 use source::fault::Fault;
 use storage::written::Written;
@@ -14,17 +17,19 @@ pub enum Call<S> {
     Close(usize),
 }
 
-// What a call answered. The events that a read handed out stand in a log, and the note says how many they are.
-#[derive(Clone, Copy)]
-pub enum Note {
-    Refused(Fault),
+// What an accepted call answered.
+#[derive(Clone, Copy, PartialEq, Eq, Debug)]
+pub enum Reply {
     Registered(usize),
     Wrote(Written),
+    // the events that a read handed out stand in a log; this is how many they are
     Handed(usize),
     Closed,
-    // no id stands in the place, or a new one would have no place to go to, or the other slots are as many as the channel's
-    NotMade,
 }
+
+// What a call of a list came to; none where it was not made: no id stands in the place, or a new one would have no place
+// to go to, or the other slots are as many as the channel's.
+pub type Note = Option<Result<Reply, Fault>>;
 
 // Why no call of a list was made.
 #[derive(Clone, Copy, PartialEq, Eq, Debug)]
@@ -34,6 +39,14 @@ pub enum NotRun {
     // the log might not hold what the calls could hand out: for each call as many events as there are slots
     ShortLog,
     Denied(Fault),
+}
+
+impl From<Fault> for NotRun {
+    ghost from_gives = { λ fault why. why ≡ Denied fault };
+
+    fn from(fault: Fault) -> NotRun {
+        NotRun::Denied(fault)
+    }
 }
 
 // A channel after a list of calls, and how many events it handed out.

@@ -2,8 +2,8 @@
 
 ghost use Rattle.replay_run.specs.Batches.{batch_means};
 
-use replay::run::replay;
-use replay::words::{Call, NotRun, Note, Replayed};
+use replay::run::{count_in, replay};
+use replay::words::{Call, NotRun, Note, Replayed, Reply};
 use shrev::channel::EventChannel;
 use shrev::id::ReaderId;
 use source::Source;
@@ -11,10 +11,10 @@ use source::event::Number;
 use source::fault::Fault;
 use source::range::Range;
 use source::slice::Slice;
-use std::io;
+use std::{fmt, io};
 use storage::util::Issuer;
 
-// The events of one write: listed, or counted.
+// The events of one write: listed, or counted. The calls of a list are of one type, so it has both.
 #[derive(Drop)]
 enum Batch<'a> {
     Listed(Slice<'a, Number>),
@@ -39,6 +39,7 @@ impl<'a> Source<Number> for Batch<'a> {
     }
 }
 
+// These two take what the list below writes; by `From` each of its calls would have to make a `Slice` or a `Range` first.
 fn listed<'a>(events: &'a [Number]) -> Batch<'a> {
     Batch::Listed(Slice::new(events))
 }
@@ -49,40 +50,53 @@ fn counted<'a>(start: Number, end: Number) -> Batch<'a> {
 
 // An id of another channel.
 fn strange(issuer: &mut Issuer) -> Result<ReaderId<Number>, Fault> {
-    match issuer.open(2, 2) {
-        Ok(grant) => EventChannel::new(grant).register_reader(),
-        Err(fault) => Err(fault),
-    }
+    EventChannel::new(issuer.open(2, 2)?).register_reader()
 }
 
+// An array of ids is taken apart by hand: the library's iterator over one and its `map` want elements that may be dropped.
 fn give_up(held: Option<ReaderId<Number>>) {
-    match held {
-        Some(id) => {
-            let _number = id.give_up();
+    let _number = held.map(ReaderId::give_up);
+}
+
+// A note, and the events of the log that it counts.
+#[derive(Clone, Copy)]
+struct Line<'a> {
+    note: Note,
+    events: &'a [Number],
+}
+
+impl fmt::Display for Line<'_> {
+    fn fmt<W: fmt::Write>(&self, f: &mut fmt::Formatter<W>) -> fmt::Result {
+        match self.note {
+            None => write!(f, "not made"),
+            Some(Err(fault)) => write!(f, "refused {}", fault.number()),
+            Some(Ok(Reply::Registered(number))) => write!(f, "registered {number}"),
+            Some(Ok(Reply::Wrote(written))) => {
+                write!(f, "wrote {}, size {}", written.count, written.size)
+            }
+            Some(Ok(Reply::Handed(_))) => {
+                write!(f, "handed")?;
+                for event in self.events {
+                    write!(f, " {event}")?;
+                }
+                Ok(())
+            }
+            Some(Ok(Reply::Closed)) => write!(f, "closed"),
         }
-        None => {}
     }
 }
 
-// Prints each note, and beside a read's the events of the log that it counts.
+// Prints each note, and beside a read's its events, which stand in the log one read after another.
 fn show(rt: &HostRuntime, notes: &[Note], log: &[Number]) -> io::Result<()> {
-    let mut at: usize = 0;
+    let mut later = log;
     for note in notes {
-        match *note {
-            Note::Refused(fault) => println!(rt; "refused {}", fault.number())?,
-            Note::Registered(number) => println!(rt; "registered {number}")?,
-            Note::Wrote(written) => println!(rt; "wrote {}, size {}", written.count, written.size)?,
-            Note::Handed(count) => {
-                print!(rt; "handed")?;
-                for event in log.iter().skip(at).take(count) {
-                    print!(rt; " {event}")?;
-                }
-                println!(rt; "")?;
-                at = at.saturating_add(count);
-            }
-            Note::Closed => println!(rt; "closed")?,
-            Note::NotMade => println!(rt; "not made")?,
-        }
+        let (events, rest) = later.split_at(count_in(note).min(later.len()));
+        let line = Line {
+            note: *note,
+            events,
+        };
+        println!(rt; "{line}")?;
+        later = rest;
     }
     Ok(())
 }
@@ -143,7 +157,7 @@ fn long_run(rt: &HostRuntime) -> io::Result<()> {
     let mut issuer = Issuer::new(7);
     let mut ids = [None, None, strange(&mut issuer).ok(), None];
     let mut calls = list();
-    let mut notes = [Note::NotMade; 26];
+    let mut notes = [None; 26];
     let mut log = [0; 208];
     let mut slots = [0; 8];
     let mut others = [0; 3];
@@ -199,8 +213,8 @@ fn short_run(
 
 fn main(rt: HostRuntime) -> io::Result<()> {
     long_run(&rt)?;
-    short_run(&rt, 2, &mut [Note::NotMade; 2], &mut [0; 6])?;
-    short_run(&rt, 2, &mut [Note::NotMade; 3], &mut [0; 5])?;
-    short_run(&rt, 1, &mut [Note::NotMade; 3], &mut [0; 6])?;
-    short_run(&rt, 2, &mut [Note::NotMade; 3], &mut [0; 6])
+    short_run(&rt, 2, &mut [None; 2], &mut [0; 6])?;
+    short_run(&rt, 2, &mut [None; 3], &mut [0; 5])?;
+    short_run(&rt, 1, &mut [None; 3], &mut [0; 6])?;
+    short_run(&rt, 2, &mut [None; 3], &mut [0; 6])
 }
