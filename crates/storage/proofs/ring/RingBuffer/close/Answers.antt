@@ -3,12 +3,12 @@ use Rattle.std.proofs.lemmas.Result.{err_from_is_err_and}
 use Rattle.source.specs.Faults.{number_of}
 use Rattle.source.specs.declared.fault.Fault.{Fault}
 use Rattle.source.specs.declared.fault.Fault.TheVariants.{NotOpen}
-use Rattle.ledger.specs.Ledger.{refused, closed}
-use Rattle.storage.specs.declared.reader.ReaderMeta.{ReaderMeta}
+use Rattle.ledger.specs.Ledger.{Ledger, refused, closed}
+use Rattle.storage.specs.Freed.{stack}
 use Rattle.storage.specs.Registry.{entry, Shut}
-use Rattle.storage.specs.Ledgers.{ledger_of, ledger_with}
-use Rattle.storage.proofs.Each.{with_removed}
-use Rattle.storage.proofs.Numbering.{close_open, close-shut}
+use Rattle.storage.specs.Ledgers.{ledger_of}
+use Rattle.storage.proofs.Each.{with-shut}
+use Rattle.storage.proofs.Numbering.{ledger-parts, close_open, close-shut}
 use Rattle.storage.proofs.ring.RingBuffer.close.Goals as goal
 
 pub returns-in_err-ok_or : goal.returns-in_err-ok_or
@@ -22,15 +22,13 @@ returns-in_err-ok_or g c =
     (record {
       ledger = λ slots.
           ap (λ (f : Fault). (refused (number_of f), ledger_of r slots)) fault
-          ∙ close-shut r.instance r.slots slots r.last.index r.last.size r.generation r.last.within r.meta c.args.number dead;
+          ∙ close-shut r.instance r.slots slots r.last.index r.last.size r.generation r.meta.readers (stack r.meta.free) r.meta.used c.args.number dead;
       rest = search rules;
       refused = refl;
     })
 
 pub invariant_of-self : goal.invariant_of-self
-invariant_of-self g c =
-    let here : entry c.args.self.now.meta.readers c.args.number ≡ Some c.in_ok-ok_or.field-0 = sym c.reader.ensures ∙ c.in_ok-ok_or.ensures.ok_part in
-    with_removed c.args.self.now c.remove.new.self c.args.number (rw here refl) c.remove.ensures
+invariant_of-self g c = with-shut c.args.self.now c.remove.new.self.readers c.args.number c.remove.ensures.readers_are
 
 pub returns : goal.returns
 returns g c =
@@ -38,8 +36,8 @@ returns g c =
     let here : entry r.meta.readers c.args.number ≡ Some c.in_ok-ok_or.field-0 = sym c.reader.ensures ∙ c.in_ok-ok_or.ensures.ok_part in
     record {
       ledger = λ slots.
-          ap (λ (m : ReaderMeta). (closed, ledger_with r.instance r.slots slots r.last.index r.last.size r.generation m)) c.remove.ensures
-          ∙ close_open r.instance r.slots slots r.last.index r.last.size r.generation r.last.within r.meta c.args.number (rw here refl) r.whole r.stack;
+          ap (λ (l : Ledger g.row.E.Denot). (closed, l)) (ledger-parts r.instance r.slots slots r.last.index r.last.size r.generation c.remove.new.self _ _ _ c.remove.ensures)
+          ∙ close_open r.instance r.slots slots r.last.index r.last.size r.generation r.meta.readers (stack r.meta.free) r.meta.used c.args.number (rw here refl);
       rest = search rules;
       refused = tt;
     }

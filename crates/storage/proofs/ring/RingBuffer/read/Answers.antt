@@ -3,7 +3,7 @@ use Rattle.std.proofs.lemmas.Result.{err_from_is_err_and}
 use Rattle.source.specs.declared.fault.Fault.TheVariants.{NotOpen}
 use Rattle.storage.specs.Registry.{entry, Shut}
 use Rattle.storage.specs.Calls.{unread_place, unread_count}
-use Rattle.storage.proofs.Each.{with_advanced}
+use Rattle.storage.proofs.Each.{with-fresh}
 use Rattle.storage.proofs.Handing.{read-hands, read-refused, same_runs}
 use Rattle.storage.proofs.ring.RingBuffer.read.Goals as goal
 
@@ -23,8 +23,7 @@ returns-in_err-reader g c =
 
 pub invariant_of-self : goal.invariant_of-self
 invariant_of-self g c =
-    let here : entry c.args.self.now.meta.readers c.args.number ≡ Some c.in_ok-reader.reader = sym c.reader.ensures ∙ c.in_ok-reader.ensures.ok_part in
-    with_advanced c.args.self.now c.advance.new.self c.args.number (omega arith) (rw here refl) c.advance.ensures
+    with-fresh c.args.self.now c.advance.new.self.readers c.args.number (omega arith) c.advance.ensures.readers_are
 
 pub returns : goal.returns
 returns g c =
