@@ -5,6 +5,7 @@ use Rattle.source.specs.Faults.{number_of}
 use Rattle.ledger.specs.Ledger as ledger
 use Rattle.ledger.specs.Ledger.{Ledger, Answer}
 use Rattle.storage.specs.Ledgers as ring
+pub use Rattle.storage.specs.Calls.{Unchanged}
 use Rattle.shrev.specs.declared.channel.EventChannel.{EventChannel}
 use Rattle.shrev.specs.declared.id.ReaderId.{ReaderId}
 
@@ -19,10 +20,6 @@ module _ {E : Type 0} where
   abbrev pub closes : Result (Unit {0}) (Fault × ReaderId E) → Answer E
   closes (Ok _) = ledger.closed
   closes (Err e) = ledger.refused (number_of e.0)
-
-  abbrev pub Unchanged : {A F : Type 0} → Result A F → EventChannel E → EventChannel E → Type 0
-  Unchanged (Ok x) before after = Unit {0}
-  Unchanged (Err f) before after = after ≡ before
 
   -- a new id bears the channel's instance number
   abbrev pub Registered : Result (ReaderId E) Fault → EventChannel E → EventChannel E → Type 0

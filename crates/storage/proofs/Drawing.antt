@@ -1,5 +1,5 @@
 -- Storing what a source gives, event by event.
-use Rattle.std.proofs.Common.{◌≡◌, ◌+◌, ◌%◌, List, [], ◌∷◌, ◌++◌, map, length, set, sym, refl, ap, ◌∙◌, map-id}
+use Rattle.std.proofs.Common.{◌≡◌, ◌+◌, ◌%◌, List, [], ◌∷◌, ◌++◌, map, length, set, sym, ap, ◌∙◌, map-id}
 use mathlib.Core.List.{map-map}
 use Rattle.storage.specs.Slots.{stored, last_after}
 use Rattle.storage.specs.declared.circular.CircularIndex.{CircularIndex}
@@ -13,9 +13,6 @@ pub record Leads {E : Type 0} (slots : List E) (at : CircularIndex) (left : List
   pub drawn : (zs : List (List E)) → below ≡ map (λ xs. left ++ xs) zs → beneath ≡ map (λ xs. all ++ xs) zs
 
 module _ {E : Type 0} (first : List E) (last : CircularIndex) (all : List E) (beneath : List (List E)) where
-  pub leads-none : Leads first last all beneath first last all beneath
-  leads-none = record { size = refl; after = refl; value = refl; drawn = λ zs e. e }
-
   -- one event drawn and stored at the place after the last
   pub leads-more : (slots new : List E) (at next : CircularIndex) (x : E) (was left : List E) (above below : List (List E))
       → Leads slots at was above first last all beneath → was ≡ x ∷ left → above ≡ map (λ xs. x ∷ xs) below

@@ -3,6 +3,7 @@ use Rattle.std.proofs.Common.{◌≡◌, ℕ, ◌+◌, ◌-◌, ◌%◌, ◌^◌
 use native.Mathlib.Nat.{mod-eq-sub-mod}
 use Rattle.std.proofs.lemmas.Bool.{cases_lt}
 use Rattle.storage.specs.Kept.{lag}
+use Rattle.storage.proofs.Storing.{next-inner, next-wraps}
 
 -- the lag, without a remainder
 lag-below : (g r : ℕ) → g < r → r < 2 ^ 64 → lag g r ≡ g + 2 ^ 64 - r
@@ -14,12 +15,6 @@ lag-above g r h k =
     let less : g + 2 ^ 64 - r - 2 ^ 64 < 2 ^ 64 = omega arith in
     mod-eq-sub-mod more ∙ mod-eq_of_lt less ∙ omega arith
 
-next-inner : (g : ℕ) → g + 1 < 2 ^ 64 → (g + 1) % 2 ^ 64 ≡ g + 1
-next-inner g h = mod-eq_of_lt h
-
-next-wraps : (g : ℕ) → g + 1 ≡ 2 ^ 64 → (g + 1) % 2 ^ 64 ≡ 0
-next-wraps g h = rw h
-
 -- one generation more is one more to lag behind, while it does not come round
 pub lag-raised : (g r : ℕ) → g < 2 ^ 64 → r < 2 ^ 64 → lag g r + 1 < 2 ^ 64 → lag ((g + 1) % 2 ^ 64) r ≡ lag g r + 1
 lag-raised g r a b c =
@@ -27,17 +22,17 @@ lag-raised g r a b c =
     (λ (below : g < r).
     let was = lag-below g r below b in
     let less : g + 1 < r = omega arith in
-    rw (next-inner g (omega arith)) (lag-below (g + 1) r less b ∙ omega arith))
+    rw (next-inner (2 ^ 64) g (omega arith)) (lag-below (g + 1) r less b ∙ omega arith))
     (λ (above : r ≤ g). ⊎_elim
     (λ (inner : g + 1 < 2 ^ 64).
     let was = lag-above g r above a in
     let more : r ≤ g + 1 = omega arith in
-    rw (next-inner g inner) (lag-above (g + 1) r more inner ∙ omega arith))
+    rw (next-inner (2 ^ 64) g inner) (lag-above (g + 1) r more inner ∙ omega arith))
     (λ (wraps : 2 ^ 64 ≤ g + 1).
     let was = lag-above g r above a in
     let same : g + 1 ≡ 2 ^ 64 = omega arith in
     let some : 0 < r = omega arith in
-    rw (next-wraps g same) (lag-below 0 r some b ∙ omega arith))
+    rw (next-wraps (2 ^ 64) g same) (lag-below 0 r some b ∙ omega arith))
     (cases_lt (g + 1) (2 ^ 64)))
     (cases_lt g r)
 
@@ -48,12 +43,12 @@ pub raised-apart : (g r : ℕ) → g < 2 ^ 64 → r < 2 ^ 64 → lag g r + 1 < 2
 raised-apart g r a b c e =
     ⊎_elim
     (λ (inner : g + 1 < 2 ^ 64).
-    let is : r ≡ g + 1 = e ∙ next-inner g inner in
+    let is : r ≡ g + 1 = e ∙ next-inner (2 ^ 64) g inner in
     let less : g < r = omega arith in
     omega (arith, lag-below g r less b))
     (λ (wraps : 2 ^ 64 ≤ g + 1).
     let same : g + 1 ≡ 2 ^ 64 = omega arith in
-    let is : r ≡ 0 = e ∙ next-wraps g same in
+    let is : r ≡ 0 = e ∙ next-wraps (2 ^ 64) g same in
     let more : r ≤ g = omega arith in
     omega (arith, lag-above g r more a))
     (cases_lt (g + 1) (2 ^ 64))

@@ -1,10 +1,7 @@
 -- Who is open, and reading, from the table of readers to the ledger.
-use Rattle.std.proofs.Common.{◌≡◌, ℕ, zero, suc, ◌+◌, ◌-◌, ◌%◌, ◌<◌, ◌≤◌, min, Bool, true, false, List, [], ◌∷◌, ◌++◌, map, length, get_or, set, replicate, is_some, Some, None, Option, ◌↔◌, sym, refl, ap, ◌∙◌, arith}
+use Rattle.std.proofs.Common.{◌≡◌, ℕ, ◌+◌, ◌-◌, ◌%◌, ◌<◌, ◌≤◌, min, Bool, true, false, List, ◌++◌, map, length, set, is_some, Some, Option, ◌↔◌, sym, refl, ap, ◌∙◌, arith}
 use Rattle.std.specs.Prelude.{IsTrue}
-use Rattle.std.proofs.lemmas.Bool.{both_ways, eq-eqb}
-use Rattle.source.specs.Faults.{number_of}
-use Rattle.source.specs.declared.fault.Fault.{Fault}
-use Rattle.source.specs.declared.fault.Fault.TheVariants.{NotOpen}
+use Rattle.std.proofs.lemmas.Bool.{both_ways}
 use Rattle.ledger.specs.Ledger as ledger
 use Rattle.ledger.specs.Ledger.{Ledger, Answer, outcome}
 use Rattle.ledger.proofs.Refusals.{suffices}
@@ -12,7 +9,7 @@ use Rattle.storage.specs.declared.reader.Reader.{Reader}
 use Rattle.storage.specs.declared.reader.ReaderMeta.{ReaderMeta}
 use Rattle.storage.specs.declared.ring.RingBuffer.{RingBuffer}
 use Rattle.storage.specs.declared.view.View.{View}
-use Rattle.storage.specs.Registry.{most, fresh, entry, Live, Shut, distance, unread}
+use Rattle.storage.specs.Registry.{fresh, entry, Live, distance, unread}
 use Rattle.storage.specs.Freed.{stack}
 use Rattle.storage.specs.Meta.{HasParts}
 use Rattle.storage.specs.Slots.{part, waiting_in}
@@ -22,15 +19,10 @@ use Rattle.storage.specs.Views.{unread as handed-events}
 use Rattle.storage.proofs.Distances.{distance-le, unread-distance}
 use Rattle.storage.proofs.Entries.{not_open}
 use Rattle.storage.proofs.Lifts.{reader_at_of, open_at_of, none_open_of, some_open_of}
-use Rattle.storage.proofs.Numbering.{accepted-is, refused-is, set-fresh, ledger-parts}
+use Rattle.storage.proofs.Numbering.{accepted-is, set-fresh, ledger-parts}
 use Rattle.storage.proofs.Waiting.{runs_of_reader}
 
 module _ {E : Type 0} (slots : List E) (last size generation : ℕ) where
-  -- before anyone registered every number is shut
-  pub all_shut : (n : ℕ) → map (reader_of slots last size generation) (replicate n None) ≡ replicate n ledger.shut
-  all_shut zero = refl
-  all_shut (suc n) = ap (λ rs. ledger.shut ∷ rs) (all_shut n)
-
   -- the table and the ledger agree on whether somebody is open
   pub any_open_is : (rs : List (Option Reader)) (b : Bool) → (IsTrue b ↔ ((k : ℕ) × Live rs k)) → b ≡ ledger.any_open (map (reader_of slots last size generation) rs)
   any_open_is rs true d = let p = d.0 refl in sym (some_open_of slots last size generation rs p.0 p.1)
@@ -70,19 +62,6 @@ module _ {E : Type 0} (r : RingBuffer E) (slots : List E) where
       ∙ ap (λ (rs : List (ledger.Reader E)). ledger.with_readers L rs L.freed L.used) (set-fresh slots r.last.index r.last.size r.generation r.meta.readers n r.last.within) in
       same_answer (handed-events v) (ledger.waiting_for L n) _ (ledger.after_read L n) (handed ∙ sym list) left
       ∙ accepted-is L (ledger.read (length slots) r.instance n) (suffices L (ledger.read (length slots) r.instance n) (same, refl, live))
-
-  -- a read of a number that is not open
-  pub read-refused : (n : ℕ) (fault : Fault) → length slots ≡ r.slots → fault ≡ NotOpen → Shut r.meta.readers n
-      → (ledger.refused (number_of fault), L) ≡ outcome L (ledger.read (length slots) r.instance n)
-  read-refused n fault same is dead =
-      let gone : ledger.is_open (get_or L.readers n ledger.shut) ≡ false = open_at_of slots r.last.index r.last.size r.generation r.meta.readers n ∙ dead in
-      rw is (refused-is L (ledger.read (length slots) r.instance n) 7 (rw (eq-eqb (length slots) r.slots same, eq-eqb r.instance r.instance refl, gone)))
-
--- a ring just made
-pub new_ledger : {E : Type 0} (instance count : ℕ) (slots : List E) (last size generation asked : ℕ) (g : ReaderMeta) → size ≡ asked → HasParts g (replicate most None) [] 0
-    → ledger_with instance count slots last size generation g.readers (stack g.free) g.used ≡ ledger.fresh instance asked count
-new_ledger instance count slots last size generation asked g e p =
-    ledger-parts instance count slots last size generation g _ _ _ p ∙ rw (all_shut slots last size generation most, e) refl
 
 -- the same view, of the same figures
 pub same_runs : {E : Type 0} (slots : List E) (from at count many size round : ℕ) (v : View E) → from ≡ at → count ≡ many → size ≡ round → Runs slots from count size v → Runs slots at many round v

@@ -1,14 +1,14 @@
 -- Registering and closing, from the table of readers to the ledger.
-use Rattle.std.proofs.Common.{◌≡◌, ℕ, ◌+◌, ◌<◌, ◌≤◌, false, List, [], ◌∷◌, map, length, get_or, set, Some, None, Option, sym, refl, ap, ◌∙◌, arith, length-append, length-drop, length-take}
+use Rattle.std.proofs.Common.{◌≡◌, ℕ, ◌+◌, ◌<◌, ◌≤◌, List, [], ◌∷◌, map, length, set, Some, None, Option, sym, refl, ap, ◌∙◌, arith, length-append, length-drop, length-take}
 use Rattle.std.proofs.lemmas.List.{map-set, drop_all}
-use Rattle.std.proofs.lemmas.Bool.{eq-eqb, le-leb}
+use Rattle.std.proofs.lemmas.Bool.{le-leb}
 use Rattle.ledger.specs.Ledger as ledger
 use Rattle.ledger.specs.Ledger.{Ledger, Answer, Call, outcome, refusal, taken, decided}
 use Rattle.ledger.proofs.Refusals.{suffices}
 use Rattle.storage.specs.declared.reader.Reader.{Reader}
 use Rattle.storage.specs.declared.reader.ReaderMeta.{ReaderMeta}
 use Rattle.storage.specs.Freed.{stack}
-use Rattle.storage.specs.Registry.{most, fresh, lives, Live, Shut}
+use Rattle.storage.specs.Registry.{most, fresh, lives, Live}
 use Rattle.storage.specs.Meta.{HasParts, Opened}
 use Rattle.storage.specs.Slots.{waiting_in, recent}
 use Rattle.storage.specs.Ledgers.{reader_of, ledger_with}
@@ -70,9 +70,3 @@ module _ {E : Type 0} (instance count : ℕ) (slots : List E) (last size generat
       let live : ledger.Open (with rs freed used) n = open_at_of slots last size generation rs n ∙ lv in
       ap (λ (xs : List (ledger.Reader E)). (ledger.closed, ledger.with_readers (with rs freed used) xs (n ∷ freed) used)) (map-set (reader_of slots last size generation) rs n None)
       ∙ accepted-is (with rs freed used) (ledger.close instance n) (suffices (with rs freed used) (ledger.close instance n) (refl, live))
-
-  pub close-shut : (rs : List (Option Reader)) (freed : List ℕ) (used n : ℕ) → Shut rs n
-      → (ledger.refused 7, with rs freed used) ≡ outcome (with rs freed used) (ledger.close instance n)
-  close-shut rs freed used n dead =
-      let gone : ledger.is_open (get_or (of_all rs) n ledger.shut) ≡ false = open_at_of slots last size generation rs n ∙ dead in
-      refused-is (with rs freed used) (ledger.close instance n) 7 (rw (eq-eqb instance instance refl, gone))

@@ -15,7 +15,6 @@ use Rattle.storage.specs.Writes.{size_then, no_room, with_size, available_then, 
 use Rattle.storage.proofs.Distances.{distance-le}
 use Rattle.storage.proofs.Entries.{clash, not_open, live-within}
 use Rattle.storage.proofs.Lifts.{none_open_of, some_open_of, longest-below, longest-above}
-use Rattle.storage.proofs.Each.{Facts}
 use Rattle.storage.proofs.Waiting.{length-waiting_in}
 
 -- a doubled size is at least twice the old one
@@ -138,21 +137,6 @@ module _ {E : Type 0} (r : RingBuffer E) (slots : List E) (own : length slots �
       let least = nearest_least e left near same in
       let ahead = nearest_ahead e left near same in
       looked_at num left r.last.size short (fits-as_is num (λ k s is. omega (arith, ahead k s is)) (omega arith)).1 (omega (arith, longest-is e near, same))
-
-  pub with_left : (left : ℕ) → left ≤ r.last.size → Ahead rs r.last.index r.last.size r.generation left
-      → Facts left r.last.index r.last.size r.slots r.generation r.meta.readers
-  with_left left least ahead =
-      record {
-        small = r.small;
-        room = r.room;
-        few = r.few;
-        spare = least;
-        ahead = ahead;
-        places = r.places;
-        bounded = r.bounded;
-        lags = r.lags;
-        level = r.level;
-      }
 
   -- room after growth to the ledger's size
   pub grown-room : (num : ℕ) (e : Reader) (left new : ℕ) (t : RingBuffer E) (after : List E) → Closest e → left ≡ far e → r.available < num → left < num

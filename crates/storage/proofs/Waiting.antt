@@ -1,20 +1,13 @@
 -- How much waits for a reader, and where it lies in the slots.
-use Rattle.std.proofs.Common.{◌≡◌, ℕ, ◌+◌, ◌-◌, ◌%◌, ◌<◌, ◌≤◌, min, cond, eqb, List, ◌++◌, length, take, drop, sym, refl, ap, ◌∙◌, ⊎_elim, append-nil, mod-eq_of_lt, arith, length-append, length-drop, length-take}
+use Rattle.std.proofs.Common.{◌≡◌, ℕ, ◌+◌, ◌-◌, ◌%◌, ◌<◌, ◌≤◌, min, cond, eqb, List, ◌++◌, length, take, drop, sym, ap, ◌∙◌, ⊎_elim, append-nil, mod-eq_of_lt, arith, length-append, length-drop, length-take}
 use native.Mathlib.Nat.{mod-eq-sub-mod, add-mod-mod, add-mod_right}
-use Rattle.std.proofs.lemmas.List.{drop-append-le, drop-drop, drop_all, drop_at, drop-take}
+use lib.Seq.{drop-append-add}
+use Rattle.std.proofs.lemmas.List.{drop-append-le, drop-drop, drop_all, drop-take}
 use Rattle.std.proofs.lemmas.Slice.{between_is}
 use Rattle.std.proofs.lemmas.Bool.{cases_lt, cond_both, eqb-true}
 use Rattle.storage.specs.declared.reader.Reader.{Reader}
 use Rattle.storage.specs.Registry.{gap, distance}
 use Rattle.storage.specs.Slots.{part, recent, waiting_in}
-
--- past the front of a join lies the rest of its second list
-pub drop-append_ge : {E : Type 0} (n : ℕ) (xs ys : List E) → length xs ≤ n → drop n (xs ++ ys) ≡ drop (n - length xs) ys
-drop-append_ge n xs ys h =
-    let split : length xs + (n - length xs) ≡ n = omega arith in
-    let past = drop_at xs ys (length xs) refl in
-    let whole = drop-drop (n - length xs) (length xs) (xs ++ ys) in
-    cc
 
 module _ {E : Type 0} (slots : List E) (size : ℕ) (room : size ≤ length slots) where
   -- as many recent events as the ring has slots
@@ -43,8 +36,8 @@ module _ {E : Type 0} (slots : List E) (size : ℕ) (room : size ≤ length slot
       → part slots (p + d - size) (size - d) ≡ drop d (recent slots size p)
   runs_whole p d h k l =
       let long : length (drop p (take size slots)) ≡ size - p = simp (length-drop, length-take) (omega arith) in
-      let past = drop-append_ge d (drop p (take size slots)) (take p slots) (omega arith) in
-      let start : d - length (drop p (take size slots)) ≡ p + d - size = omega arith in
+      let past = drop-append-add (drop p (take size slots)) (take p slots) (p + d - size) in
+      let start : length (drop p (take size slots)) + (p + d - size) ≡ d = omega arith in
       let end : (p + d - size) + (size - d) ≡ p = omega arith in
       let run = drop-take (p + d - size) (size - d) slots in
       cc

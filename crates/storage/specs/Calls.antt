@@ -1,10 +1,14 @@
 -- What a call leaves of a ring beside what the ledger says. Assumes nothing.
-use Rattle.std.specs.Prelude.{◌≡◌, ℕ, ◌+◌, ◌-◌, ◌%◌, ◌≤◌, min, List, [], length, Some, Ok, Err, Result}
+use Rattle.std.specs.Prelude.{◌≡◌, ℕ, ◌+◌, ◌-◌, ◌%◌, ◌≤◌, min, List, [], length, Some, Ok, Err, Result, OnErr}
 use Rattle.storage.specs.declared.reader.Reader.{Reader}
 use Rattle.storage.specs.declared.ring.RingBuffer.{RingBuffer}
 use Rattle.storage.specs.declared.view.View.{View}
 use Rattle.storage.specs.Registry.{entry, unread}
 use Rattle.storage.specs.Slots.{part}
+
+-- a refused call leaves a value as it was
+abbrev pub Unchanged : {A F X : Type 0} → Result A F → X → X → Type 0
+Unchanged result before after = OnErr result (after ≡ before)
 
 module _ {E : Type 0} where
   pub record SameButReaders (before after : RingBuffer E) : Type 0 where
@@ -13,11 +17,6 @@ module _ {E : Type 0} where
     pub slots : after.slots ≡ before.slots
     pub generation : after.generation ≡ before.generation
     pub instance : after.instance ≡ before.instance
-
-  -- a refused call leaves the ring as it was
-  abbrev pub Unchanged : {A F : Type 0} → Result A F → RingBuffer E → RingBuffer E → Type 0
-  Unchanged (Ok x) before after = Unit {0}
-  Unchanged (Err f) before after = after ≡ before
 
   -- where the events begin that the reader has not read: at the place after its own
   abbrev pub unread_place : RingBuffer E → Reader → ℕ

@@ -13,7 +13,7 @@ pub const MOST_SLOTS: usize = 1_048_576;
 // Gives out grants, each under an instance number of its own.
 #[derive(Drop)]
 pub struct Issuer {
-    // the next number; past the largest one when all are given out
+    // the next number; past the largest one when all are given out, which the rule of openings takes as a number too
     next: u64,
 }
 
@@ -40,9 +40,7 @@ impl Issuer {
         if size > slots {
             return Err(Fault::SizeAboveSlots);
         }
-        let Ok(instance) = u32::try_from(self.next) else {
-            return Err(Fault::OutOfNumbers);
-        };
+        let instance = u32::try_from(self.next).map_err(|_| Fault::OutOfNumbers)?;
         self.next += 1;
         Ok(Grant {
             instance,

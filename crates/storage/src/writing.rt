@@ -15,8 +15,8 @@ use source::drain::Drain;
 use source::fault::Fault;
 use source::single::Single;
 
-// The slots are the caller's, so each step of a write asks that they are as many as the ring's (`own`): a struct of both
-// would hold two `&mut` for one call, and each clause would read through it.
+// The slots are the caller's, so each step of a write asks that they are as many as the ring's (`own`). A struct that
+// borrows both is no plainer: in place of it each step would say that it keeps both borrows.
 impl<E: Copy> RingBuffer<E> {
     // The size that holds what waits and the new events: the smallest of 2, 4, 8 and so on times the old one. None where
     // the slots are too few for it.
@@ -28,6 +28,7 @@ impl<E: Copy> RingBuffer<E> {
             return None;
         }
         let mut size = self.last.size;
+        // The rule as it reads: `next_power_of_two` of a rounded quotient would hide it.
         while size < need {
             size *= 2;
         }

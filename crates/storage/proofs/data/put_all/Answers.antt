@@ -6,7 +6,5 @@ loop-event-preserved g c =
     leads-more _ _ _ _ _ _ _ _ _ _ _ _ _ c.loop-event.invariant c.in-Some.ensures.gives c.in-Some.ensures.draws
     c.step-at.ensures.index c.step-at.ensures.size c.put.ensures
 
-pub returns : goal.returns
-returns g c =
-    let all = leads-all _ _ _ _ _ _ _ _ _ c.loop-event.invariant c.in_default.ensures.gives.0 c.in_default.ensures.draws in
-    record { after = all.0; emptied = c.in_default.ensures.gives.1; drawn = all.1; index = all.2; size = c.loop-event.invariant.size }
+pub returns-clause-drawn : goal.returns-clause-drawn
+returns-clause-drawn g c = (leads-all _ _ _ _ _ _ _ _ _ c.loop-event.invariant c.in_default.ensures.gives.0 c.in_default.ensures.draws).1

@@ -4,7 +4,7 @@ use Rattle.ledger.proofs.Sizes.{size_laws}
 use Rattle.std.proofs.lemmas.Result.{err_from_is_err_and}
 use Rattle.source.specs.declared.fault.Fault.TheVariants.{GrowthAboveSlots}
 use Rattle.storage.proofs.Entries.{clash}
-use Rattle.storage.proofs.Rooms.{too_long, too_large, as_it_is, nobody, closest, nearest_ahead, nearest_least, nobody_available, somebody_available, with_left, grown-room, twice_at_least}
+use Rattle.storage.proofs.Rooms.{too_long, too_large, as_it_is, nobody, closest, nearest_ahead, nearest_least, nobody_available, somebody_available, grown-room, twice_at_least}
 use Rattle.storage.proofs.ring.RingBuffer.ensure_additional_slow.Goals as goal
 
 pub returns-then-num-size : goal.returns-then-num-size
@@ -17,17 +17,6 @@ returns-in_default g c =
     as_it_is r c.args.slots.now c.requires.own c.args.num _ (λ k e is. clash _ e (nobody r c.args.slots.now c.requires.own c.in_default.ensures k) is)
     c.if-num-size.false c.if-num-size.false
     (nobody_available r c.args.slots.now c.requires.own c.args.num c.in_default.ensures c.requires.short c.if-num-size.false) refl refl refl refl refl
-
-pub invariant_of-self-then-left-num : goal.invariant_of-self-then-left-num
-invariant_of-self-then-left-num g c =
-    let r = c.args.self.now in
-    let slots = c.args.slots.now in
-    let e = c.unwrap-reader.result in
-    let left = c.distance_from-left.result in
-    let near = closest r slots c.requires.own c.in-Some.nearest e c.in-Some.ensures c.unwrap-reader.ensures in
-    with_left r slots c.requires.own left
-    (nearest_least r slots c.requires.own e left near c.distance_from-left.ensures)
-    (nearest_ahead r slots c.requires.own e left near c.distance_from-left.ensures)
 
 pub returns-then-left-num : goal.returns-then-left-num
 returns-then-left-num g c =
@@ -61,24 +50,12 @@ returns-in_err-grown g c =
 pub overflow_sub-grown : goal.overflow_sub-grown
 overflow_sub-grown g c = omega (arith, size_laws.never_smaller c.args.self.now.last.size (c.args.self.now.last.size - c.distance_from-left.result + c.args.num) (omega arith), (rw c.in_ok-grown.ensures.ok_part at c.grown_size.ensures).0)
 
-pub grow-requires : goal.grow-requires
-grow-requires g c =
+pub grow-requires-clause-double : goal.grow-requires-clause-double
+grow-requires-clause-double g c =
     let r = c.args.self.now in
-    let slots = c.args.slots.now in
-    let e = c.unwrap-reader.result in
-    let left = c.distance_from-left.result in
-    let near = closest r slots c.requires.own c.in-Some.nearest e c.in-Some.ensures c.unwrap-reader.ensures in
-    let least = nearest_least r slots c.requires.own e left near c.distance_from-left.ensures in
-    let more : r.last.size < r.last.size - left + c.args.num = omega arith in
-    let twice = twice_at_least r.last.size (r.last.size - left + c.args.num) (omega arith) more in
-    let grown = rw c.in_ok-grown.ensures.ok_part at c.grown_size.ensures in
-    record {
-      double = omega (arith, twice, grown.0);
-      room = omega (arith, twice, grown.0, grown.1);
-      own = c.requires.own;
-      least = least;
-      ahead = nearest_ahead r slots c.requires.own e left near c.distance_from-left.ensures;
-    }
+    let more : r.last.size < r.last.size - c.distance_from-left.result + c.args.num = omega arith in
+    let twice = twice_at_least r.last.size (r.last.size - c.distance_from-left.result + c.args.num) (omega arith) more in
+    omega (arith, twice, (rw c.in_ok-grown.ensures.ok_part at c.grown_size.ensures).0)
 
 pub returns : goal.returns
 returns g c =

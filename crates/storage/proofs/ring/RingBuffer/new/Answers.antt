@@ -1,7 +1,6 @@
-use Rattle.std.proofs.Common.{List, Option, sym, refl, subst, arith}
+use Rattle.std.proofs.Common.{List, Option, sym, subst, arith}
 use Rattle.storage.specs.declared.reader.Reader.{Reader}
 use Rattle.storage.proofs.Each.{Kept, facts, kept_new}
-use Rattle.storage.proofs.Handing.{new_ledger}
 use Rattle.storage.proofs.ring.RingBuffer.new.Goals as goal
 
 pub invariant_of-result : goal.invariant_of-result
@@ -9,15 +8,3 @@ invariant_of-result g c =
     let last = c.at_end.result in
     facts c.args.grant.size last.index last.size c.args.grant.slots 0 c.new.result.readers (omega arith) (omega arith) (omega arith) (omega arith)
     (subst (λ (rs : List (Option Reader)). Kept last.index last.size 0 c.args.grant.size rs) (sym c.new.ensures.readers_are) (kept_new last.index last.size 0 c.args.grant.size))
-
-pub returns : goal.returns
-returns g c =
-    let last = c.at_end.result in
-    let grant = c.args.grant in
-    record {
-      ledger = λ slots. new_ledger grant.instance grant.slots slots last.index last.size 0 grant.size c.new.result c.at_end.ensures.size c.new.ensures;
-      available = refl;
-      last = c.at_end.ensures.index;
-      size = c.at_end.ensures.size;
-      generation = refl;
-    }

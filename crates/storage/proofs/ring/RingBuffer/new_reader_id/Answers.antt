@@ -1,28 +1,19 @@
-use Rattle.std.proofs.Common.{◌<◌, refl, arith, rules}
+use Rattle.std.proofs.Common.{◌<◌, arith, rules}
 use Rattle.storage.specs.Registry.{most, lives}
 use Rattle.storage.proofs.Each.{with-fresh}
 use Rattle.storage.proofs.Numbering.{register-some, register-none}
 use Rattle.storage.proofs.ring.RingBuffer.new_reader_id.Goals as goal
 
-pub returns-then-is_full : goal.returns-then-is_full
-returns-then-is_full g c =
+pub returns-then-is_full-clause-ledger : goal.returns-then-is_full-clause-ledger
+returns-then-is_full-clause-ledger g c slots =
     let r = c.args.self.now in
-    record {
-      ledger = λ slots. register-none r.instance r.slots slots r.last.index r.last.size r.generation r.meta (search rules);
-      rest = search rules;
-      refused = refl;
-    }
+    register-none r.instance r.slots slots r.last.index r.last.size r.generation r.meta (search rules)
 
 pub invariant_of-self : goal.invariant_of-self
 invariant_of-self g c = with-fresh c.args.self.now c.alloc.new.self.readers c.alloc.result (omega arith) c.alloc.ensures.parts.readers_are
 
-pub returns : goal.returns
-returns g c =
+pub returns-clause-ledger : goal.returns-clause-ledger
+returns-clause-ledger g c slots =
     let r = c.args.self.now in
     let room : lives r.meta.readers < most = grind (arith, c.if-is_full.ensures, r.meta.whole, r.meta.few) in
-    record {
-      ledger = λ slots.
-          register-some r.instance r.slots slots r.last.index r.last.size r.generation r.meta c.alloc.new.self c.alloc.result r.last.within room c.alloc.ensures;
-      rest = search rules;
-      refused = tt;
-    }
+    register-some r.instance r.slots slots r.last.index r.last.size r.generation r.meta c.alloc.new.self c.alloc.result r.last.within room c.alloc.ensures
