@@ -4,8 +4,7 @@ use native.Mathlib.Nat.{mod-eq-sub-mod}
 use Rattle.std.proofs.lemmas.Bool.{cases_lt, cases_eq, cases_order, eq-eqb, ne_eqb}
 use Rattle.std.proofs.lemmas.Bool.Decides.{nat_tests}
 use Rattle.storage.specs.declared.reader.Reader.{Reader}
-use Rattle.storage.specs.Registry.{gap, distance, unread, shifted, raised}
-use Rattle.storage.specs.Meta.{fresh}
+use Rattle.storage.specs.Registry.{fresh, gap, distance, unread, shifted, raised}
 use Rattle.storage.proofs.Shifts.{moved, stays-below, shifted-place, shifted-generation}
 
 -- once round the ring and less

@@ -5,8 +5,7 @@ use Rattle.std.proofs.lemmas.Bool.{both_ways, cases_eq}
 use Rattle.std.proofs.lemmas.List.{get_or-set_other}
 use Rattle.std.proofs.lemmas.List.Sums.{sum_by-set, sum_by-cons}
 use Rattle.storage.specs.declared.reader.Reader.{Reader}
-use Rattle.storage.specs.Meta.{lives}
-use Rattle.storage.specs.Registry.{entry, Live, Shut, Each}
+use Rattle.storage.specs.Registry.{entry, lives, Live, Shut, Each}
 
 -- an entry is not both
 pub clash : {A : Type 0} (o : Option Reader) (r : Reader) → IsNone o → o ≡ Some r → A

@@ -1,136 +1,137 @@
 -- What the table keeps through each of its calls.
-use Rattle.std.proofs.Common.{◌≡◌, ℕ, ◌+◌, ◌-◌, ◌<◌, ◌≤◌, Bool, true, false, cond, ltb, ◌≢◌, ◌⊎◌, length, set, Some, None, Option, sym, refl, ◌∙◌, subst, inl, inr, ⊎_elim, arith}
+use Rattle.std.proofs.Common.{◌≡◌, ℕ, ◌+◌, ◌<◌, ◌≤◌, true, false, List, [], ◌∷◌, map, length, set, replicate, Some, None, Option, sym, refl, ◌∙◌, arith}
+use Rattle.std.specs.List.{AllByRecursion}
 use Rattle.std.specs.Option.{option_map}
-use Rattle.std.proofs.lemmas.List.{length-set, length-map, length-replicate, get_or-set_same, get_or-set_other}
-use Rattle.std.proofs.lemmas.Bool.{both_ways, cases_eq, ltb-true, ltb-false}
+use Rattle.std.specs.Prelude.{nat_eq}
+use Rattle.std.proofs.lemmas.List.{length-set, length-map, length-replicate, get_or-set_same}
+use Rattle.std.proofs.lemmas.Bool.{both_ways, eq-eqb, ne_eqb}
+use Rattle.std.proofs.lemmas.Map.Keys.{IsDistinct-from_apart, IsDistinct-head, IsDistinct-tail, IsDistinct-cons}
+use Rattle.ledger.specs.Ledger.{number_taken, freed_left, used_then}
 use Rattle.storage.specs.declared.reader.Reader.{Reader}
 use Rattle.storage.specs.declared.reader.ReaderMeta.{ReaderMeta}
-use Rattle.storage.specs.Registry.{Live, Shut, shifted}
-use Rattle.storage.specs.Meta.{most, fresh, lives, no_readers, freed_at, Alloc, removed, advanced, shifted_all, Whole, Stack, Apart, Sound}
+use Rattle.storage.specs.Freed.{stack}
+use Rattle.storage.specs.Registry.{most, lives, Live, Shut, Numbered, Stack, Apart}
 use Rattle.storage.proofs.Entries.{not_open, live-within, apart_from, lives-from, closed-set, below_set, shut-blank, lives-blank, live-map, lives-map}
 
-pub new_sound : Sound no_readers
-new_sound = (
-  (omega arith, omega (arith, lives-blank most), (λ k lv. absurd (both_ways _ (shut-blank most k) lv)), length-replicate {A = Option Reader} most None),
-  ((λ k h. absurd (omega arith)), (λ k h. absurd (omega arith)), length-replicate {A = ℕ} most 0),
-  (λ j k jk h e. omega arith),
-)
+-- the table's facts, under the names in its record
+abbrev pub Sound : List (Option Reader) → List ℕ → ℕ → Type 0
+Sound rs freed used =
+    record {
+      long : length rs ≡ most;
+      few : used ≤ most;
+      whole : lives rs + length freed ≡ used;
+      numbered : Numbered rs used;
+      stacked : Stack rs freed used;
+      apart : Apart freed;
+    }
 
--- closing
+-- the same of equal parts
+pub sound_as : (rs qs : List (Option Reader)) (freed left : List ℕ) (used more : ℕ) → rs ≡ qs → freed ≡ left → used ≡ more → Sound qs left more → Sound rs freed used
+sound_as rs qs freed left used more a b d s = rw (a, b, d) s
 
--- where one is open, not all are freed
-pub room-to_free : (g : ReaderMeta) (n : ℕ) → Live g.readers n → Whole g → g.freed < most
-room-to_free g n lv w =
-    let e = lives-from g.readers n None true false (live-within g.readers n lv) lv refl in omega (arith, e, w.0, w.1)
+-- what holds of each number on the stack, as another fact of it does
+all_more : {P Q : ℕ → Type 0} (freed : List ℕ) → ((n : ℕ) → P n → Q n) → AllByRecursion P freed → AllByRecursion Q freed
+all_more [] h a = tt
+all_more (n ∷ freed) h a = (h n a.0, all_more freed h a.1)
 
--- what stands on the stack after a push
-pushed : (g : ReaderMeta) (n k : ℕ) → g.freed < length g.free → k < g.freed + 1
-    → ((k < g.freed) × (freed_at (removed g n) k ≡ freed_at g k)) ⊎ ((k ≡ g.freed) × (freed_at (removed g n) k ≡ n))
-pushed g n k room lt =
-    ⊎_elim (λ (same : k ≡ g.freed). inr (same, rw same (get_or-set_same g.free g.freed n 0 room)))
-    (λ (ne : k ≡ g.freed → ⊥). inl (omega arith, get_or-set_other g.free g.freed k n 0 ne)) (cases_eq k g.freed)
+-- an open number does not stand on the stack
+not_stacked : (rs : List (Option Reader)) (i used : ℕ) (freed : List ℕ) → Live rs i → Stack rs freed used → AllByRecursion (λ n. nat_eq i n ≡ false) freed
+not_stacked rs i used freed lv = all_more freed (λ n p. ne_eqb i n (λ e. apart_from rs i n lv p.1 (sym e)))
 
--- what holds of n and of each freed number holds of each after n is freed
-each_freed : (P : ℕ → Type 0) (g : ReaderMeta) (n : ℕ) → g.freed < length g.free → P n → ((k : ℕ) → k < g.freed → P (freed_at g k))
-    → (k : ℕ) → k < g.freed + 1 → P (freed_at (removed g n) k)
-each_freed P g n room here all k lt =
-    ⊎_elim (λ (p : (k < g.freed) × (freed_at (removed g n) k ≡ freed_at g k)). subst P (sym p.1) (all k p.0))
-    (λ (p : (k ≡ g.freed) × (freed_at (removed g n) k ≡ n)). subst P (sym p.1) here) (pushed g n k room lt)
+-- the stack's facts stay where the number of the changed entry does not stand on it
+stack-set : (rs : List (Option Reader)) (i : ℕ) (e : Option Reader) (used : ℕ) (freed : List ℕ) → AllByRecursion (λ n. nat_eq i n ≡ false) freed → Stack rs freed used → Stack (set rs i e) freed used
+stack-set rs i e used [] other s = tt
+stack-set rs i e used (n ∷ freed) other s =
+    ((s.0.0, closed-set rs i e n (λ same. both_ways _ other.0 (eq-eqb i n (sym same))) s.0.1), stack-set rs i e used freed other.1 s.1)
 
-removed-whole : (g : ReaderMeta) (n : ℕ) → Live g.readers n → Whole g → Whole (removed g n)
-removed-whole g n lv w =
-    let e = lives-from g.readers n None true false (live-within g.readers n lv) lv refl in
-    (w.0, omega (arith, e, w.1), below_set g.readers n None g.used g.used (w.2 n lv) (omega arith) w.2, length-set g.readers n None ∙ w.3)
+pub new_sound : Sound (replicate most None) [] 0
+new_sound =
+    record {
+      long = length-replicate {A = Option Reader} most None;
+      few = omega arith;
+      whole = omega (arith, lives-blank most);
+      numbered = λ k lv. absurd (both_ways _ (shut-blank most k) lv);
+      stacked = tt;
+      apart = IsDistinct-from_apart nat_eq [] (λ i j d less short. absurd (omega arith));
+    }
 
-removed-stack : (g : ReaderMeta) (n : ℕ) → Live g.readers n → Whole g → Stack g → Stack (removed g n)
-removed-stack g n lv w s =
-    let room : g.freed < length g.free = omega (arith, room-to_free g n lv w, s.2) in
-    let here : Shut (set g.readers n None) n = rw (get_or-set_same g.readers n None None (live-within g.readers n lv)) refl in (
-      each_freed (λ x. x < g.used) g n room (w.2 n lv) s.0,
-      each_freed (λ x. Shut (set g.readers n None) x) g n room here
-          (λ k h. closed-set g.readers n None (freed_at g k) (apart_from g.readers n (freed_at g k) lv (s.1 k h)) (s.1 k h)),
-      length-set g.free g.freed n ∙ s.2,
-    )
+-- registering, under an unused number and under a freed one
+pub opened-sound : (rs : List (Option Reader)) (freed : List ℕ) (used : ℕ) (r : Reader) → lives rs < most → Sound rs freed used
+    → Sound (set rs (number_taken freed used) (Some r)) (freed_left freed) (used_then freed used)
+opened-sound rs [] used r room s =
+    let dead : Shut rs used = not_open _ (λ lv. let z = s.numbered used lv in omega arith) in
+    let count = lives-from rs used (Some r) false true (omega (arith, s.long, s.whole)) dead refl in
+    record {
+      long = length-set rs used (Some r) ∙ s.long;
+      few = omega (arith, s.whole);
+      whole = omega (arith, count, s.whole);
+      numbered = below_set rs used (Some r) used (used + 1) (omega arith) (omega arith) s.numbered;
+      stacked = tt;
+      apart = s.apart;
+    }
+opened-sound rs (n ∷ freed) used r room s =
+    let count = lives-from rs n (Some r) false true (omega (arith, s.long, s.few, s.stacked.0.0)) s.stacked.0.1 refl in
+    record {
+      long = length-set rs n (Some r) ∙ s.long;
+      few = s.few;
+      whole = omega (arith, count, s.whole);
+      numbered = below_set rs n (Some r) used used s.stacked.0.0 (omega arith) s.numbered;
+      stacked = stack-set rs n (Some r) used freed (IsDistinct-head nat_eq n freed s.apart) s.stacked.1;
+      apart = IsDistinct-tail nat_eq n freed s.apart;
+    }
 
-removed-apart : (g : ReaderMeta) (n : ℕ) → Live g.readers n → Whole g → Stack g → Apart g → Apart (removed g n)
-removed-apart g n lv w s a j k jk h e =
-    let room : g.freed < length g.free = omega (arith, room-to_free g n lv w, s.2) in
-    let jl : j < g.freed = omega arith in
-    let jo : j ≢ g.freed = omega arith in
-    let ej : freed_at (removed g n) j ≡ freed_at g j = get_or-set_other g.free g.freed j n 0 jo in
-    ⊎_elim (λ (p : (k < g.freed) × (freed_at (removed g n) k ≡ freed_at g k)). a j k jk p.0 (sym ej ∙ e ∙ p.1))
-    (λ (p : (k ≡ g.freed) × (freed_at (removed g n) k ≡ n)). apart_from g.readers n (freed_at g j) lv (s.1 j jl) (sym ej ∙ e ∙ p.1)) (pushed g n k room h)
+-- the number taken is a number of the table
+pub taken_below : (rs : List (Option Reader)) (freed : List ℕ) (used : ℕ) → lives rs < most → Sound rs freed used → number_taken freed used < most
+taken_below rs [] used room s = omega (arith, s.whole)
+taken_below rs (n ∷ freed) used room s = omega (arith, s.stacked.0.0, s.few)
 
-pub removed-sound : (g : ReaderMeta) (n : ℕ) → Live g.readers n → Sound g → Sound (removed g n)
-removed-sound g n lv s = (removed-whole g n lv s.0, removed-stack g n lv s.0 s.1, removed-apart g n lv s.0 s.1 s.2)
+module _ (rs : List (Option Reader)) (freed : List ℕ) (used n : ℕ) (lv : Live rs n) (s : Sound rs freed used) where
+  -- closing
+  pub removed-sound : Sound (set rs n None) (n ∷ freed) used
+  removed-sound =
+      let count = lives-from rs n None true false (live-within rs n lv) lv refl in
+      let here : Shut (set rs n None) n = rw (get_or-set_same rs n None None (live-within rs n lv)) refl in
+      let other = not_stacked rs n used freed lv s.stacked in
+      record {
+        long = length-set rs n None ∙ s.long;
+        few = s.few;
+        whole = omega (arith, count, s.whole);
+        numbered = below_set rs n None used used (s.numbered n lv) (omega arith) s.numbered;
+        stacked = ((s.numbered n lv, here), stack-set rs n None used freed other s.stacked);
+        apart = IsDistinct-cons nat_eq n freed other s.apart;
+      }
 
--- registering
+  -- there is room to put it on the stack
+  pub room-to_free : (length freed < most) × (n < most)
+  room-to_free =
+      let count = lives-from rs n None true false (live-within rs n lv) lv refl in
+      (omega (arith, count, s.whole, s.few), omega (arith, s.numbered n lv, s.few))
 
-abbrev after : Bool → ReaderMeta → ℕ → Option Reader → ReaderMeta
-after b g n e = record { readers = set g.readers n e; free = g.free; freed = g.freed - 1; used = cond b g.used (g.used + 1) }
-
--- under a freed number, and under an unused one
-opening : (b : Bool) (g : ReaderMeta) (n : ℕ) (r : Reader) → ltb 0 g.freed ≡ b → n ≡ cond b (freed_at g (g.freed - 1)) g.used → n < most
-    → Sound g → Sound (after b g n (Some r))
-opening true g n r t is lt s =
-    let some : 0 < g.freed = ltb-true 0 g.freed t in
-    let top : g.freed - 1 < g.freed = omega arith in
-    let dead : Shut g.readers n = subst (λ (x : ℕ). Shut g.readers x) (sym is) (s.1.1 (g.freed - 1) top) in
-    let low : n < g.used = subst (λ (x : ℕ). x < g.used) (sym is) (s.1.0 (g.freed - 1) top) in
-    let count = lives-from g.readers n (Some r) false true (omega (arith, s.0.3)) dead refl in (
-      (s.0.0, omega (arith, count, s.0.1), below_set g.readers n (Some r) g.used g.used low (omega arith) s.0.2, length-set g.readers n (Some r) ∙ s.0.3),
-      (
-        (λ k h. s.1.0 k (omega arith)),
-        (λ k h. closed-set g.readers n (Some r) (freed_at g k) (λ q. s.2 k (g.freed - 1) (omega arith) top (q ∙ is)) (s.1.1 k (omega arith))),
-        s.1.2,
-      ),
-      (λ j k jk h. s.2 j k jk (omega arith)),
-    )
-opening false g n r t is lt s =
-    let none : g.freed ≤ 0 = ltb-false 0 g.freed t in
-    let dead : Shut g.readers n = not_open _ (λ (l : Live g.readers n). let z = s.0.2 n l in omega (arith, z, is)) in
-    let count = lives-from g.readers n (Some r) false true (omega (arith, s.0.3)) dead refl in (
-      (omega (arith, is), omega (arith, count, s.0.1), below_set g.readers n (Some r) g.used (g.used + 1) (omega (arith, is)) (omega arith) s.0.2, length-set g.readers n (Some r) ∙ s.0.3),
-      ((λ k h. absurd (omega arith)), (λ k h. absurd (omega arith)), s.1.2),
-      (λ j k jk h. absurd (omega arith)),
-    )
-
-pub alloc_sound : (g h : ReaderMeta) (place generation : ℕ) (o : Option ℕ) → Alloc g h place generation o → Sound g → Sound h
-alloc_sound g h place generation None al s = subst (λ (x : ReaderMeta). Sound x) (sym al.2) s
-alloc_sound g h place generation (Some n) al s =
-    subst (λ (x : ReaderMeta). Sound x) (sym al.2) (opening (ltb 0 g.freed) g n (fresh place generation) refl al.0 al.1 s)
-
--- a read
-
-pub advanced-sound : (g : ReaderMeta) (n place generation : ℕ) → Live g.readers n → Sound g → Sound (advanced g n place generation)
-advanced-sound g n place generation lv s =
-    let w = s.0 in
-    let e : Option Reader = Some (fresh place generation) in
-    let count = lives-from g.readers n e true true (live-within g.readers n lv) lv refl in (
-      (w.0, omega (arith, count, w.1), below_set g.readers n e g.used g.used (w.2 n lv) (omega arith) w.2, length-set g.readers n e ∙ w.3),
-      (s.1.0, (λ k h. closed-set g.readers n e (freed_at g k) (apart_from g.readers n (freed_at g k) lv (s.1.1 k h)) (s.1.1 k h)), s.1.2),
-      s.2,
-    )
+  -- a read
+  pub advanced-sound : (r : Reader) → Sound (set rs n (Some r)) freed used
+  advanced-sound r =
+      let count = lives-from rs n (Some r) true true (live-within rs n lv) lv refl in
+      record {
+        long = length-set rs n (Some r) ∙ s.long;
+        few = s.few;
+        whole = omega (arith, count, s.whole);
+        numbered = below_set rs n (Some r) used used (s.numbered n lv) (omega arith) s.numbered;
+        stacked = stack-set rs n (Some r) used freed (not_stacked rs n used freed lv s.stacked) s.stacked;
+        apart = s.apart;
+      }
 
 -- growth
+pub shifted-sound : (f : Reader → Reader) (rs : List (Option Reader)) (freed : List ℕ) (used : ℕ) → Sound rs freed used → Sound (map (option_map f) rs) freed used
+shifted-sound f rs freed used s =
+    let same = live-map f rs in
+    record {
+      long = length-map rs (option_map f) ∙ s.long;
+      few = s.few;
+      whole = omega (arith, lives-map f rs, s.whole);
+      numbered = λ k lv. s.numbered k (sym (same k) ∙ lv);
+      stacked = all_more freed (λ n p. (p.0, same n ∙ p.1)) s.stacked;
+      apart = s.apart;
+    }
 
-pub shifted-sound : (g : ReaderMeta) (last generation by : ℕ) → Sound g → Sound (shifted_all g last generation by)
-shifted-sound g last generation by s =
-    let w = s.0 in
-    let same = live-map (shifted last generation by) g.readers in (
-      (w.0, omega (arith, lives-map (shifted last generation by) g.readers, w.1), (λ k lv. w.2 k (sym (same k) ∙ lv)), length-map g.readers (option_map (shifted last generation by)) ∙ w.3),
-      (s.1.0, (λ k h. same (freed_at g k) ∙ s.1.1 k h), s.1.2),
-      s.2,
-    )
-
--- who is open, in numbers
-
-not_full : (b : Bool) (g : ReaderMeta) (n : ℕ) → ltb 0 g.freed ≡ b → Whole g → n ≡ cond b (freed_at g (g.freed - 1)) g.used → n < most → lives g.readers ≢ most
-not_full true g n t w is lt full = omega (arith, ltb-true 0 g.freed t, w.0, w.1)
-not_full false g n t w is lt full = omega (arith, w.1, is)
-
--- no number is given exactly where all are open
-pub alloc_full : (g h : ReaderMeta) (place generation : ℕ) (o : Option ℕ) → Whole g → Alloc g h place generation o → (o ≡ None → lives g.readers ≡ most) × (lives g.readers ≡ most → o ≡ None)
-alloc_full g h place generation None w al = ((λ _. omega (arith, al.0, al.1, w.1)), (λ _. refl))
-alloc_full g h place generation (Some n) w al =
-    ((λ e. let z : ◌≡◌ {A = ℕ} 0 1 = cc in absurd (omega arith)), (λ full. absurd (not_full (ltb 0 g.freed) g n refl w al.0 al.1 full)))
+pub sound-of : (g : ReaderMeta) → Sound g.readers (stack g.free) g.used
+sound-of g = record { long = g.long; few = g.few; whole = g.whole; numbered = g.numbered; stacked = g.stacked; apart = g.apart }

@@ -12,6 +12,7 @@ pub mod Outcomes
 pub mod Over
 pub mod Rooms
 pub mod Shifts
+pub mod Stacks
 pub mod Stores
 pub mod Storing
 pub mod Waiting

@@ -1,39 +1,12 @@
 -- From the table of readers to the ledger's readers.
-use Rattle.std.proofs.Common.{◌≡◌, ℕ, zero, suc, ◌+◌, ◌-◌, ◌<◌, ◌≤◌, true, false, cond, ltb, ◌≢◌, List, [], ◌∷◌, map, length, get_or, set, is_some, Some, None, Option, sym, refl, ap, ◌∙◌, arith}
-use Rattle.std.proofs.lemmas.List.{get_or-set_other, get_or-set_same}
-use Rattle.std.proofs.lemmas.Bool.{lt-ltb}
+use Rattle.std.proofs.Common.{◌≡◌, ℕ, zero, suc, ◌≤◌, true, false, List, [], ◌∷◌, map, length, get_or, is_some, Some, None, Option, sym, refl, ap, ◌∙◌, arith}
 use Rattle.ledger.specs.Ledger as ledger
 use Rattle.ledger.proofs.Readers.{get_or-map_at, any_open_from}
 use Rattle.storage.specs.declared.reader.Reader.{Reader}
-use Rattle.storage.specs.Registry.{entry, Live, Shut, Each}
-use Rattle.storage.specs.Meta.{lives}
+use Rattle.storage.specs.Registry.{entry, lives, Live, Shut, Each}
 use Rattle.storage.specs.Slots.{waiting_in}
-use Rattle.storage.specs.Ledgers.{stack_of, reader_of}
+use Rattle.storage.specs.Ledgers.{reader_of}
 use Rattle.storage.proofs.Entries.{clash, lives-cons}
-
--- the stack of freed numbers: what is on top, what lies below it, and a number put on it
-
-pub stack_top : (free : List ℕ) (freed used : ℕ) → ledger.number_taken (stack_of free freed) used ≡ cond (ltb 0 freed) (get_or free (freed - 1) 0) used
-stack_top free zero used = refl
-stack_top free (suc n) used = let e : suc n - 1 ≡ n = omega arith in rw (e, lt-ltb 0 (suc n) (omega arith))
-
-pub stack-below : (free : List ℕ) (freed : ℕ) → ledger.freed_left (stack_of free freed) ≡ stack_of free (freed - 1)
-stack-below free zero = refl
-stack-below free (suc n) = let e : suc n - 1 ≡ n = omega arith in rw e
-
-pub stack-used : (free : List ℕ) (freed used : ℕ) → ledger.used_then (stack_of free freed) used ≡ cond (ltb 0 freed) used (used + 1)
-stack-used free zero used = refl
-stack-used free (suc n) used = rw (lt-ltb 0 (suc n) (omega arith))
-
-stack-kept : (free : List ℕ) (i n freed : ℕ) → freed ≤ i → stack_of (set free i n) freed ≡ stack_of free freed
-stack-kept free i n zero h = refl
-stack-kept free i n (suc k) h =
-    let ne : k ≢ i = omega arith in rw (get_or-set_other free i k n 0 ne, stack-kept free i n k (omega arith))
-
-pub stack-pushed : (free : List ℕ) (n freed : ℕ) → freed < length free → stack_of (set free freed n) (freed + 1) ≡ n ∷ stack_of free freed
-stack-pushed free n freed h =
-    let e : freed + 1 ≡ suc freed = omega arith in
-    rw (e, get_or-set_same free freed n 0 h, stack-kept free freed n freed (omega arith))
 
 module _ {E : Type 0} (slots : List E) (last size generation : ℕ) where
   abbrev of : Option Reader → ledger.Reader E

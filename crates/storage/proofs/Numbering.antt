@@ -1,19 +1,19 @@
 -- Registering and closing, from the table of readers to the ledger.
-use Rattle.std.proofs.Common.{◌≡◌, ℕ, ◌+◌, ◌-◌, ◌<◌, ◌≤◌, ◌≢◌, List, [], ◌∷◌, map, length, set, Some, None, Option, sym, refl, ap, ◌∙◌, ⊎_elim, arith, length-append, length-drop, length-take}
+use Rattle.std.proofs.Common.{◌≡◌, ℕ, ◌+◌, ◌<◌, ◌≤◌, List, [], ◌∷◌, map, length, set, Some, None, Option, sym, refl, ap, ◌∙◌, arith, length-append, length-drop, length-take}
 use Rattle.std.proofs.lemmas.List.{map-set, drop_all}
-use Rattle.std.proofs.lemmas.Bool.{le-leb, cases_eq}
+use Rattle.std.proofs.lemmas.Bool.{le-leb}
 use Rattle.ledger.specs.Ledger as ledger
 use Rattle.ledger.specs.Ledger.{Ledger, Answer, Call, outcome, refusal, taken, decided}
 use Rattle.ledger.proofs.Refusals.{suffices}
 use Rattle.storage.specs.declared.reader.Reader.{Reader}
 use Rattle.storage.specs.declared.reader.ReaderMeta.{ReaderMeta}
-use Rattle.storage.specs.Registry.{Live}
-use Rattle.storage.specs.Meta.{most, lives, fresh, Alloc, opened, removed, Whole, Stack}
+use Rattle.storage.specs.Freed.{stack}
+use Rattle.storage.specs.Registry.{most, fresh, lives, Live}
+use Rattle.storage.specs.Meta.{HasParts, Opened}
 use Rattle.storage.specs.Slots.{waiting_in, recent}
-use Rattle.storage.specs.Ledgers.{stack_of, reader_of, ledger_with}
+use Rattle.storage.specs.Ledgers.{reader_of, ledger_with}
 use Rattle.storage.proofs.Distances.{distance-fresh}
-use Rattle.storage.proofs.Keeps.{alloc_full, room-to_free}
-use Rattle.storage.proofs.Lifts.{stack_top, stack-below, stack-used, stack-pushed, open_count-of, open_at_of}
+use Rattle.storage.proofs.Lifts.{open_count-of, open_at_of}
 
 module _ {E : Type 0} where
   -- an accepted call and a refused one
@@ -36,56 +36,37 @@ module _ {E : Type 0} (slots : List E) (last size generation : ℕ) where
       map-set (reader_of slots last size generation) rs n (Some (fresh last generation))
       ∙ ap (λ xs. set (map (reader_of slots last size generation) rs) n (ledger.waiting xs)) (nothing-waits below)
 
-module _ {E : Type 0} (instance count : ℕ) (slots : List E) (last size generation : ℕ) (below : last < size) where
-  abbrev before : ReaderMeta → Ledger E
-  before = ledger_with instance count slots last size generation
-
-  abbrev after : List (ledger.Reader E) → List ℕ → ℕ → Ledger E
-  after rs freed used = record { instance = instance; size = size; slots = count; readers = rs; freed = freed; used = used }
-
-  same_after : (rs rs' : List (ledger.Reader E)) (f f' : List ℕ) (u u' : ℕ) → rs ≡ rs' → f ≡ f' → u ≡ u' → after rs f u ≡ after rs' f' u'
-  same_after rs rs' f f' u u' a b c = rw (a, b, c)
+module _ {E : Type 0} (instance count : ℕ) (slots : List E) (last size generation : ℕ) where
+  abbrev with : List (Option Reader) → List ℕ → ℕ → Ledger E
+  with = ledger_with instance count slots last size generation
 
   abbrev of_all : List (Option Reader) → List (ledger.Reader E)
   of_all = map (reader_of slots last size generation)
 
-  some_is_not_none : (n : ℕ) → ◌≡◌ {A = Option ℕ} (Some n) None → ⊥
-  some_is_not_none n e = let z : ◌≡◌ {A = ℕ} 0 1 = cc in omega arith
+  -- the ledger of a table that has these parts
+  pub ledger-parts : (g : ReaderMeta) (rs : List (Option Reader)) (freed : List ℕ) (used : ℕ) → HasParts g rs freed used
+      → with g.readers (stack g.free) g.used ≡ with rs freed used
+  ledger-parts g rs freed used p = rw (p.readers_are, p.freed_are, p.used_is)
 
-  not_full : (g h : ReaderMeta) (n : ℕ) → Whole g → Alloc g h last generation (Some n) → lives g.readers < most
-  not_full g h n w al =
-      ⊎_elim
-      (λ (full : lives g.readers ≡ most). absurd (some_is_not_none n ((alloc_full g h last generation (Some n) w al).1 full)))
-      (λ (less : lives g.readers ≢ most). omega (arith, w.0, w.1, less))
-      (cases_eq (lives g.readers) most)
+  pub register-some : (g h : ReaderMeta) (n : ℕ) → last < size → lives g.readers < most → Opened g h (fresh last generation) n
+      → (ledger.registered n, with h.readers (stack h.free) h.used) ≡ outcome (with g.readers (stack g.free) g.used) ledger.register
+  register-some g h n below room opened =
+      let L : Ledger E = with g.readers (stack g.free) g.used in
+      let few : ledger.open_count (of_all g.readers) < most = rw (open_count-of slots last size generation g.readers) room in
+      ap (λ (l : Ledger E). (ledger.registered n, l)) (ledger-parts h _ _ _ opened.parts)
+      ∙ ap (λ (rs : List (ledger.Reader E)). (ledger.registered n, ledger.with_readers L rs (ledger.freed_left L.freed) (ledger.used_then L.freed L.used))) (set-fresh slots last size generation g.readers n below)
+      ∙ ap (λ (m : ℕ). (ledger.registered m, ledger.with_readers L (set (of_all g.readers) m (ledger.waiting [])) (ledger.freed_left L.freed) (ledger.used_then L.freed L.used))) opened.number
+      ∙ accepted-is L ledger.register (suffices L ledger.register few)
 
-  pub register-some : (g h : ReaderMeta) (n : ℕ) → Whole g → Alloc g h last generation (Some n)
-      → (ledger.registered n, before h) ≡ outcome (before g) ledger.register
-  register-some g h n w al =
-      let few : ledger.open_count (of_all g.readers) < most = rw (open_count-of slots last size generation g.readers) (not_full g h n w al) in
-      let same : n ≡ ledger.next_number (before g) = al.0 ∙ sym (stack_top g.free g.freed g.used) in
-      ap (λ (x : ReaderMeta). (ledger.registered n, before x)) al.2
-      ∙ ap (λ (l : Ledger E). (ledger.registered n, l))
-      (same_after (of_all (opened g n last generation).readers) (set (of_all g.readers) n (ledger.waiting [])) (stack_of g.free (g.freed - 1)) (ledger.freed_left (stack_of g.free g.freed))
-      (opened g n last generation).used (ledger.used_then (stack_of g.free g.freed) g.used)
-      (set-fresh slots last size generation g.readers n below) (sym (stack-below g.free g.freed)) (sym (stack-used g.free g.freed g.used)))
-      ∙ ap (λ (m : ℕ). (ledger.registered m, after (set (of_all g.readers) m (ledger.waiting [])) (ledger.freed_left (stack_of g.free g.freed)) (ledger.used_then (stack_of g.free g.freed) g.used))) same
-      ∙ accepted-is (before g) ledger.register (suffices (before g) ledger.register few)
-
-  pub register-none : (g h : ReaderMeta) → Whole g → Alloc g h last generation None
-      → (ledger.refused 4, before h) ≡ outcome (before g) ledger.register
-  register-none g h w al =
-      let full = (alloc_full g h last generation None w al).0 refl in
+  pub register-none : (g : ReaderMeta) → lives g.readers ≡ most
+      → (ledger.refused 4, with g.readers (stack g.free) g.used) ≡ outcome (with g.readers (stack g.free) g.used) ledger.register
+  register-none g full =
       let all : most ≤ ledger.open_count (of_all g.readers) = rw (open_count-of slots last size generation g.readers) (omega arith) in
-      ap (λ (x : ReaderMeta). (ledger.refused 4, before x)) al.2
-      ∙ refused-is (before g) ledger.register 4 (rw (le-leb most (ledger.open_count (of_all g.readers)) all))
+      refused-is (with g.readers (stack g.free) g.used) ledger.register 4 (rw (le-leb most (ledger.open_count (of_all g.readers)) all))
 
-  pub close_open : (g : ReaderMeta) (n : ℕ) → Live g.readers n → Whole g → Stack g
-      → (ledger.closed, before (removed g n)) ≡ outcome (before g) (ledger.close instance n)
-  close_open g n lv w s =
-      let room : g.freed < length g.free = omega (arith, room-to_free g n lv w, s.2) in
-      let live : ledger.Open (before g) n = open_at_of slots last size generation g.readers n ∙ lv in
-      ap (λ (l : Ledger E). (ledger.closed, l))
-      (same_after (of_all (removed g n).readers) (set (of_all g.readers) n ledger.shut) (stack_of (set g.free g.freed n) (g.freed + 1)) (n ∷ stack_of g.free g.freed) g.used g.used
-      (map-set (reader_of slots last size generation) g.readers n None) (stack-pushed g.free n g.freed room) refl)
-      ∙ accepted-is (before g) (ledger.close instance n) (suffices (before g) (ledger.close instance n) (refl, live))
+  pub close_open : (rs : List (Option Reader)) (freed : List ℕ) (used n : ℕ) → Live rs n
+      → (ledger.closed, with (set rs n None) (n ∷ freed) used) ≡ outcome (with rs freed used) (ledger.close instance n)
+  close_open rs freed used n lv =
+      let live : ledger.Open (with rs freed used) n = open_at_of slots last size generation rs n ∙ lv in
+      ap (λ (xs : List (ledger.Reader E)). (ledger.closed, ledger.with_readers (with rs freed used) xs (n ∷ freed) used)) (map-set (reader_of slots last size generation) rs n None)
+      ∙ accepted-is (with rs freed used) (ledger.close instance n) (suffices (with rs freed used) (ledger.close instance n) (refl, live))

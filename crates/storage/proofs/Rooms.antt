@@ -6,8 +6,7 @@ use Rattle.ledger.proofs.Readers.{longest-shut}
 use Rattle.ledger.proofs.Sizes.{size_laws, size-doubles}
 use Rattle.storage.specs.declared.reader.Reader.{Reader}
 use Rattle.storage.specs.declared.ring.RingBuffer.{RingBuffer}
-use Rattle.storage.specs.Registry.{entry, Shut, Each, distance}
-use Rattle.storage.specs.Meta.{most, Nearest}
+use Rattle.storage.specs.Registry.{most, Nearest, entry, Shut, Each, distance}
 use Rattle.storage.specs.Ledgers.{ledger_of}
 use Rattle.storage.specs.Slots.{waiting_in, grown}
 use Rattle.storage.specs.Kept.{Ahead}
@@ -58,7 +57,7 @@ module _ {E : Type 0} (r : RingBuffer E) (slots : List E) (own : length slots �
   pub nobody : Nearest far rs most None → (k : ℕ) → Shut rs k
   nobody near k =
       ⊎_elim (λ (lt : k < most). near k lt)
-      (λ (le : most ≤ k). not_open (entry rs k) (λ lv. let w = live-within rs k lv in omega (arith, w, r.whole.3)))
+      (λ (le : most ≤ k). not_open (entry rs k) (λ lv. let w = live-within rs k lv in omega (arith, w, r.meta.long)))
       (cases_lt k most)
 
   pub nobody_open : Nearest far rs most None → would_write L ≡ false
@@ -79,7 +78,7 @@ module _ {E : Type 0} (r : RingBuffer E) (slots : List E) (own : length slots �
       record {
         number = i;
         here = is;
-        all = λ k s at. let w = live-within rs k (ap is_some at) in subst (λ x. far x ≤ far s) same (near.3 k s (omega (arith, w, r.whole.3)) at);
+        all = λ k s at. let w = live-within rs k (ap is_some at) in subst (λ x. far x ≤ far s) same (near.3 k s (omega (arith, w, r.meta.long)) at);
       }
 
   pub somebody_open : (e : Reader) → Closest e → would_write L ≡ true

@@ -9,17 +9,18 @@ use Rattle.storage.specs.declared.reader.Reader.{Reader}
 use Rattle.storage.specs.Registry.{distance, shifted, Each}
 use Rattle.storage.specs.Kept.{lag, Ahead}
 use Rattle.storage.specs.declared.reader.ReaderMeta.{ReaderMeta}
-use Rattle.storage.specs.Meta.{shifted_all}
+use Rattle.storage.specs.Meta.{HasParts}
+use Rattle.storage.specs.Freed.{stack}
 use Rattle.storage.specs.Slots.{recent, stored, last_after, grown}
 use Rattle.storage.specs.declared.ring.RingBuffer.{RingBuffer}
-use Rattle.storage.specs.Ledgers.{reader_of, stack_of, ledger_with, ledger_of}
+use Rattle.storage.specs.Ledgers.{reader_of, ledger_with, ledger_of}
 use Rattle.storage.specs.Writes.{with_size, with_joined}
 use Rattle.storage.proofs.Distances.{distance-le, distance-stored, distance-grown, agree_grown, place_grown}
-use Rattle.storage.proofs.Each.{Fine, Facts, facts, kept, fine_of, sound-of}
+use Rattle.storage.proofs.Each.{Fine, Facts, facts, kept, fine_of}
 use Rattle.storage.proofs.Entries.{each_map}
 use Rattle.storage.proofs.Generations.{lag-raised, raised-apart}
-use Rattle.storage.proofs.Keeps.{shifted-sound}
 use Rattle.storage.proofs.Lifts.{map-entries}
+use Rattle.storage.proofs.Numbering.{ledger-parts}
 use Rattle.storage.proofs.Shifts.{shifted-generation}
 use Rattle.storage.proofs.Storing.{waiting-stored}
 use Rattle.storage.proofs.Growing.{waiting-grown}
@@ -130,39 +131,40 @@ module _ {E : Type 0} (r : RingBuffer E) (fits : r.generation < 2 ^ 64) where
   all_fit k e is = record { below = r.last.within; few = r.last.small; fits = fits; fine = fine_of r k e is }
 
   -- growth keeps what a ring keeps
-  pub grown-facts : (h : ReaderMeta) (then : CircularIndex) (g left : ℕ) → h ≡ shifted_all meta last r.generation g → then.index ≡ last → then.size ≡ size + g
-      → size ≤ g → size + g ≤ r.slots → left ≤ size → Ahead meta.readers last size r.generation left → Facts (left + g) then.index then.size r.slots r.generation h
-  grown-facts h then g left e at is double wide least ahead =
+  pub grown-facts : (rs : List (Option Reader)) (then : CircularIndex) (g left : ℕ) → rs ≡ map (option_map (shifted last r.generation g)) meta.readers → then.index ≡ last → then.size ≡ size + g
+      → size ≤ g → size + g ≤ r.slots → left ≤ size → Ahead meta.readers last size r.generation left → Facts (left + g) then.index then.size r.slots r.generation rs
+  grown-facts rs then g left e at is double wide least ahead =
       let some : 1 ≤ g = omega (arith, r.small) in
+      let moved : List (Option Reader) = map (option_map (shifted last r.generation g)) meta.readers in
       let fine = each_map (shifted last r.generation g) (Fine last (size + g) r.generation (left + g)) meta.readers
       (λ k x here. grown-fine last size r.generation r.available g some left x (all_fit k x here) (ahead k x here)) in
       rw (e, at, is) (
-      facts (left + g) last (size + g) r.slots r.generation (shifted_all meta last r.generation g) (omega (arith, r.small)) wide r.few (omega arith)
-      (kept last (size + g) r.generation (left + g) (shifted_all meta last r.generation g) fine (shifted-sound meta last r.generation g (sound-of r))))
+      facts (left + g) last (size + g) r.slots r.generation moved (omega (arith, r.small)) wide r.few (omega arith)
+      (kept last (size + g) r.generation (left + g) moved fine))
 
   -- and changes the ledger's size alone
   pub grown-ledger : (old new : List E) (h : ReaderMeta) (then : CircularIndex) (g : ℕ)
-      → h ≡ shifted_all meta last r.generation g → then.index ≡ last → then.size ≡ size + g → new ≡ grown old ((last + 1) % size) size g → size ≤ g → size + g ≤ length old
-      → ledger_with r.instance r.slots new then.index then.size r.generation h ≡ with_size (ledger_of r old) (size + g)
-  grown-ledger old new h then g e at is s double room =
-      rw (e, at, is) refl
-      ∙ ap (λ xs. ledger_with r.instance r.slots xs last (size + g) r.generation (shifted_all meta last r.generation g)) s
-      ∙ ap (figures r.instance r.slots (size + g) meta.used (stack_of meta.free meta.freed)) (grown-readers old last size r.generation r.available g double room meta.readers all_fit)
+      → HasParts h (map (option_map (shifted last r.generation g)) meta.readers) (stack meta.free) meta.used → then.index ≡ last → then.size ≡ size + g
+      → new ≡ grown old ((last + 1) % size) size g → size ≤ g → size + g ≤ length old
+      → ledger_with r.instance r.slots new then.index then.size r.generation h.readers (stack h.free) h.used ≡ with_size (ledger_of r old) (size + g)
+  grown-ledger old new h then g p at is s double room =
+      rw (at, is, s) (ledger-parts r.instance r.slots (grown old ((last + 1) % size) size g) last (size + g) r.generation h _ _ _ p
+      ∙ ap (figures r.instance r.slots (size + g) meta.used (stack meta.free)) (grown-readers old last size r.generation r.available g double room meta.readers all_fit))
 
   -- storing keeps what a ring keeps
   pub stored-facts : (then : CircularIndex) (n : ℕ) → then.index ≡ last_after size last n → then.size ≡ size → 1 ≤ n → n ≤ r.available
-      → Facts (r.available - n) then.index then.size r.slots ((r.generation + 1) % 2 ^ 64) meta
+      → Facts (r.available - n) then.index then.size r.slots ((r.generation + 1) % 2 ^ 64) meta.readers
   stored-facts then n at is some enough =
       rw (at, is) (
-      facts (r.available - n) (last_after size last n) size r.slots ((r.generation + 1) % 2 ^ 64) meta r.small r.room r.few (omega (arith, r.spare))
-      (kept (last_after size last n) size ((r.generation + 1) % 2 ^ 64) (r.available - n) meta
-      (λ k x here. stored-fine last size r.generation r.available n some enough x (all_fit k x here)) (sound-of r)))
+      facts (r.available - n) (last_after size last n) size r.slots ((r.generation + 1) % 2 ^ 64) meta.readers r.small r.room r.few (omega (arith, r.spare))
+      (kept (last_after size last n) size ((r.generation + 1) % 2 ^ 64) (r.available - n) meta.readers
+      (λ k x here. stored-fine last size r.generation r.available n some enough x (all_fit k x here))))
 
   -- and joins the events to every unread list
   pub stored-ledger : (old new : List E) (then : CircularIndex) (xs : List E)
       → new ≡ stored old size last xs → then.index ≡ last_after size last (length xs) → then.size ≡ size → 1 ≤ length xs → length xs ≤ r.available → size ≤ length old
-      → ledger_with r.instance r.slots new then.index then.size ((r.generation + 1) % 2 ^ 64) meta ≡ with_joined (ledger_of r old) xs
+      → ledger_with r.instance r.slots new then.index then.size ((r.generation + 1) % 2 ^ 64) meta.readers (stack meta.free) meta.used ≡ with_joined (ledger_of r old) xs
   stored-ledger old new then xs s at is some enough room =
       rw (at, is) refl
-      ∙ ap (λ ys. ledger_with r.instance r.slots ys (last_after size last (length xs)) size ((r.generation + 1) % 2 ^ 64) meta) s
-      ∙ ap (figures r.instance r.slots size meta.used (stack_of meta.free meta.freed)) (stored-readers old last size r.generation r.available room xs some enough meta.readers all_fit)
+      ∙ ap (λ ys. ledger_with r.instance r.slots ys (last_after size last (length xs)) size ((r.generation + 1) % 2 ^ 64) meta.readers (stack meta.free) meta.used) s
+      ∙ ap (figures r.instance r.slots size meta.used (stack meta.free)) (stored-readers old last size r.generation r.available room xs some enough meta.readers all_fit)

@@ -1,4 +1,5 @@
 pub mod Calls
+pub mod Freed
 pub mod Kept
 pub mod Ledgers
 pub mod Meta

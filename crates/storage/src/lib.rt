@@ -3,6 +3,7 @@
 
 pub mod circular;
 mod data;
+pub mod freed;
 pub mod grant;
 pub mod opening;
 pub mod reader;

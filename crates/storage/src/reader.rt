@@ -1,9 +1,11 @@
-ghost use Rattle.std.specs.Prelude.{◌≡◌, ℕ, ◌-◌, ◌<◌, ◌≤◌, ◌&&◌, ◌↔◌, Some, IsTrue, ◌==◌};
-ghost use Rattle.storage.specs.Registry.{entry, distance, unread, needs_shift, Live};
+ghost use Rattle.std.specs.Prelude.{◌≡◌, ℕ, ◌+◌, ◌-◌, ◌<◌, ◌≤◌, ◌↔◌, List, [], ◌∷◌, map, length, replicate, Some, None, Option, option_map, IsTrue, slice_set};
+ghost use Rattle.std.proofs.Props.{props};
+ghost use Rattle.storage.specs.Freed.{stack};
 ghost use Rattle.storage.specs.Kept.{Places};
-ghost use Rattle.storage.specs.Meta.{most, Nearest, no_readers, Alloc, removed, advanced, shifted_all, Whole, Stack};
+ghost use Rattle.storage.specs.Registry.{most, entry, fresh, lives, distance, unread, needs_shift, shifted, Live, Numbered, Stack, Apart, Nearest};
 
 use crate::circular::CircularIndex;
+use crate::freed::Freed;
 
 // How many readers may be open at a time.
 pub const READERS: usize = 64;
@@ -15,13 +17,18 @@ pub struct Reader {
     pub(crate) generation: u64,
 }
 
-// The open readers, by number, and a stack of the numbers that were freed.
+// The open readers, by number. Each number ever used is open or freed.
 #[derive(Clone, Copy)]
 pub struct ReaderMeta {
     pub(crate) readers: [Option<Reader>; READERS],
-    pub(crate) free: [u16; READERS],
-    pub(crate) freed: usize,
+    pub(crate) free: Freed,
     pub(crate) used: usize,
+    ghost long: { length readers ≡ most },
+    ghost few: { used ≤ most },
+    ghost whole: { lives readers + length (stack free) ≡ used },
+    ghost numbered: { Numbered readers used },
+    ghost stacked: { Stack readers (stack free) used } by { Prim.hlevel props },
+    ghost apart: { Apart (stack free) } by { Prim.hlevel props },
 }
 
 impl Reader {
@@ -58,13 +65,14 @@ impl Reader {
 }
 
 impl ReaderMeta {
+    ghost use Rattle.storage.specs.Meta.{HasParts, Opened};
+
     pub(crate) fn new() -> Self
-        ensures { result ≡ no_readers }
+        ensures { HasParts result (replicate most None) [] 0 }
     {
         ReaderMeta {
             readers: [None; READERS],
-            free: [0; READERS],
-            freed: 0,
+            free: Freed::new(),
             used: 0,
         }
     }
@@ -82,46 +90,42 @@ impl ReaderMeta {
         self.readers.iter().any(|reader| reader.is_some())
     }
 
-    // Every number is taken.
+    // Every number is open.
     pub(crate) fn is_full(&self) -> bool
-        ensures { result ≡ (self.now.freed == 0 && self.now.used == most) }
+        ensures { IsTrue result ↔ (lives self.now.readers ≡ most) }
     {
-        self.freed == 0 && self.used == READERS
+        self.free.is_empty() && self.used == READERS
     }
 
-    // The last freed number, else the next unused one.
+    // The last freed number, else the next unused one. Its reader has read everything up to the place. As in shrev, place and
+    // generation come apart: they are a reader only once they stand in the table.
     pub(crate) fn alloc(&mut self, place: usize, generation: u64) -> usize
-        requires whole { Whole self.old }
-        requires stack { Stack self.old }
-        requires room { self.old.freed ≡ 0 → self.old.used < most }
-        ensures { Alloc self.old self.new place generation (Some result) }
+        requires { lives self.old.readers < most }
+        ensures { Opened self.old self.new (fresh place generation) result }
     {
-        let id = if self.freed > 0 {
-            self.freed -= 1;
-            self.free[self.freed] as usize
-        } else {
-            self.used += 1;
-            self.used - 1
+        let id = match self.free.pop() {
+            Some(id) => id,
+            None => {
+                self.used += 1;
+                self.used - 1
+            }
         };
         self.readers[id] = Some(Reader { place, generation });
         id
     }
 
     pub(crate) fn remove(&mut self, id: usize)
-        requires whole { Whole self.old }
-        requires live { Live self.old.readers id }
-        ensures { self.new ≡ removed self.old id }
+        requires { Live self.old.readers id }
+        ensures { HasParts self.new (slice_set self.old.readers id None) (id ∷ stack self.old.free) self.old.used }
     {
         self.readers[id] = None;
-        self.free[self.freed] = id as u16;
-        self.freed += 1;
+        self.free.push(id);
     }
 
     // The reader has read everything up to the place.
     pub(crate) fn advance(&mut self, id: usize, place: usize, generation: u64)
-        requires whole { Whole self.old }
-        requires live { Live self.old.readers id }
-        ensures { self.new ≡ advanced self.old id place generation }
+        requires { Live self.old.readers id }
+        ensures { HasParts self.new (slice_set self.old.readers id (Some (fresh place generation))) (stack self.old.free) self.old.used }
     {
         self.readers[id] = Some(Reader { place, generation });
     }
@@ -148,7 +152,7 @@ impl ReaderMeta {
     // Growth by `by` moves what lies above the last place, and the readers with it.
     pub(crate) fn shift(&mut self, last: usize, generation: u64, by: usize)
         requires { Places self.old.readers (1048576 - by) }
-        ensures { self.new ≡ shifted_all self.old last generation by }
+        ensures { HasParts self.new (map (option_map (shifted last generation by)) self.old.readers) (stack self.old.free) self.old.used }
     {
         for entry in &mut self.readers {
             if let Some(reader) = entry {

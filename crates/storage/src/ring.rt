@@ -1,6 +1,5 @@
 ghost use Rattle.std.specs.Prelude.{⊤, ◌≡◌, ◌≤◌};
 ghost use Rattle.storage.specs.Kept.{Places, Bounded, Lags, Level, Ahead};
-ghost use Rattle.storage.specs.Meta.{Whole, Stack, Apart};
 
 use crate::circular::CircularIndex;
 use crate::reader::ReaderMeta;
@@ -29,9 +28,6 @@ pub struct RingBuffer<E> {
     ghost bounded: { Bounded meta.readers },
     ghost lags: { Lags meta.readers last.index last.size generation },
     ghost level: { Level meta.readers last.index generation },
-    ghost whole: { Whole meta },
-    ghost stack: { Stack meta },
-    ghost apart: { Apart meta },
 }
 
 // By hand: a derive is refused on a generic struct with a ghost field, and would ask for `E: Clone`.

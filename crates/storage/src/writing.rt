@@ -2,8 +2,7 @@ ghost use Rattle.std.specs.Prelude.{◌≡◌, ◌+◌, ◌-◌, ◌%◌, ◌^�
 ghost use Rattle.ledger.specs.Ledger.{outcome, size_for};
 ghost use Rattle.ledger.specs.Ledger.Call.{write};
 ghost use Rattle.storage.specs.Kept.{Ahead};
-ghost use Rattle.storage.specs.Meta.{most, Nearest};
-ghost use Rattle.storage.specs.Registry.{distance};
+ghost use Rattle.storage.specs.Registry.{most, distance, Nearest};
 ghost use Rattle.storage.specs.Ledgers.{ledger_of};
 ghost use Rattle.storage.specs.Slots.{grown, stored, last_after};
 ghost use Rattle.storage.specs.Writes.{with_size, with_joined, Ensured, Stores, Draws, writes};

@@ -1,8 +1,11 @@
 use Rattle.std.proofs.Common.{◌≡◌, ◌+◌, Some, None, Option, get_or, set, sym, refl, ap, ◌∙◌, arith}
+use Rattle.std.proofs.lemmas.Grind.{common_steps}
 use Rattle.std.specs.Option.{option_map}
 use Rattle.storage.specs.Registry.{raised, shifted}
 use Rattle.storage.specs.declared.reader.Reader.{Reader}
-use Rattle.storage.proofs.Over.{over, over_more}
+use Rattle.storage.specs.Freed.{stack}
+use Rattle.storage.proofs.Keeps.{sound-of, sound_as, shifted-sound}
+use Rattle.storage.proofs.Over.{over, over_more, over_all}
 use Rattle.storage.proofs.Shifts.{moved, stays-below}
 use Rattle.storage.proofs.reader.ReaderMeta.shift.Goals as goal
 use Rattle.storage.proofs.reader.ReaderMeta.shift.Goals.{in-Some+then-needs_shift, in-Some+else-needs_shift, in_default}
@@ -20,3 +23,13 @@ loop-entry-preserved c =
       | in-Some+else-needs_shift w ↦ w.entry-items-is ∙ turn (Some w.in-Some.reader) (rw w.in-Some.is (ap Some (sym (stays-below c.args.last c.args.generation c.args.by w.in-Some.reader (sym w.if-needs_shift.ensures)))))
       | in_default w ↦ w.entry-items-is ∙ turn (get_or ys i None) (rw w.in_default.is refl)
     ]
+
+pub overflow_add-reader : goal.overflow_add-reader
+overflow_add-reader c = grind (arith, common_steps, c.loop-entry.invariant, c.in-Some.is, c.requires c.loop-entry.entry-index)
+
+pub invariant_of-self : goal.invariant_of-self
+invariant_of-self c =
+    let g = c.args.self.now in
+    let f = shifted c.args.last c.args.generation c.args.by in
+    let all = over_all (option_map f) g.readers c.loop-entry.entry-items c.loop-entry.entry-index (omega arith) c.loop-entry.invariant in
+    sound_as _ _ _ _ _ _ all refl refl (shifted-sound f g.readers (stack g.free) g.used (sound-of g))

@@ -6,7 +6,7 @@ use Rattle.storage.proofs.ring.RingBuffer.grow.Goals as goal
 pub invariant_of-self : goal.invariant_of-self
 invariant_of-self g c =
     let fits : c.args.self.now.generation < 2 ^ 64 = omega arith in
-    grown-facts c.args.self.now fits c.shift.new.self c.resized-self.result c.args.by c.args.left c.shift.ensures c.resized-self.ensures.index c.resized-self.ensures.size c.requires.double c.requires.room c.requires.least c.requires.ahead
+    grown-facts c.args.self.now fits c.shift.new.self.readers c.resized-self.result c.args.by c.args.left c.shift.ensures.readers_are c.resized-self.ensures.index c.resized-self.ensures.size c.requires.double c.requires.room c.requires.least c.requires.ahead
 
 pub returns-clause-ledger : goal.returns-clause-ledger
 returns-clause-ledger g c =

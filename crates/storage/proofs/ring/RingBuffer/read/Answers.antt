@@ -1,14 +1,12 @@
-use Rattle.std.proofs.Common.{◌≡◌, Some, sym, refl, ◌∙◌, arith}
+use Rattle.std.proofs.Common.{◌≡◌, Some, sym, ◌∙◌, arith}
 use Rattle.storage.specs.Registry.{entry}
 use Rattle.storage.specs.Calls.{unread_place, unread_count}
-use Rattle.storage.proofs.Each.{with_advanced}
+use Rattle.storage.proofs.Each.{with-fresh}
 use Rattle.storage.proofs.Handing.{read-hands, same_runs}
 use Rattle.storage.proofs.ring.RingBuffer.read.Goals as goal
 
 pub invariant_of-self : goal.invariant_of-self
-invariant_of-self g c =
-    let here : entry c.args.self.now.meta.readers c.args.number ≡ Some c.in_ok-reader.reader = sym c.reader.ensures ∙ c.in_ok-reader.ensures.ok_part in
-    with_advanced c.args.self.now c.advance.new.self c.args.number (omega arith) (rw here refl) c.advance.ensures
+invariant_of-self g c = with-fresh c.args.self.now c.advance.new.self.readers c.args.number (omega arith) c.advance.ensures.readers_are
 
 pub returns-clause-ledger : goal.returns-clause-ledger
 returns-clause-ledger g c =
