@@ -2,7 +2,6 @@ ghost use Rattle.std.specs.Prelude.{◌≡◌, ◌≤◌, length, IfSome};
 ghost use Rattle.std.specs.Result.{result_err};
 ghost use Rattle.ledger.specs.Ledger.{fresh};
 ghost use Rattle.runner.specs.Runs.{Runs, Carries};
-ghost use Rattle.runner.specs.Sessions.{slot_count};
 
 use crate::session::{SLOTS, Session};
 use script::check::{ScriptFault, check};
@@ -28,7 +27,6 @@ fn carry_on(
     out: &mut [u8],
     written: &mut usize,
 ) -> Result<(), ScriptFault>
-    requires own { grant.slots ≡ slot_count }
     requires within { IfSome records.next (λ at. at ≤ length records.script.now) }
     requires room { written.old ≤ length out.old }
     ensures { Carries records.entry.script.now records.entry.next (fresh grant.instance grant.size grant.slots) out.old written.old out.new (record { written = written.new; fault = result_err result }) }
@@ -36,8 +34,10 @@ fn carry_on(
     let mut session = Session::new(grant);
     for found in records {
         let (at, record) = found?;
-        let end = session.step(record, out, *written);
-        *written = end.map_err(|full| ScriptFault { fault: full, at })?;
+        let end = session
+            .step(record, out, *written)
+            .map_err(|full| ScriptFault { fault: full, at })?;
+        *written = end;
     }
     Ok(())
 }

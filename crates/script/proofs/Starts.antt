@@ -1,11 +1,13 @@
 -- The bytes from a place on, and the record that begins there.
-use Rattle.std.proofs.Common.{◌≡◌, ℕ, ◌-◌, ◌<◌, ◌≤◌, min, Bool, true, false, not, eqb, List, length, take, drop, None, Err, codes, sym, refl, ap, ◌∙◌, inl, inr, arith}
+use Rattle.std.proofs.Common.{◌≡◌, ℕ, ◌-◌, ◌≤◌, min, Bool, true, false, not, eqb, cond, nat_lt, List, length, take, drop, Some, None, Ok, Err, Option, Result, codes, sym, refl, ap, ◌∙◌, inl, inr, arith, length-take}
 use mathlib.Core.Bool.{beq}
 use Rattle.std.specs.Str.{bytes_eq}
 use Rattle.std.proofs.lemmas.List.{take_all, take_rest, drop_all}
-use Rattle.std.proofs.lemmas.Bool.{cases_lt, lt-ltb, le-ltb, true≢false}
+use Rattle.std.proofs.lemmas.Bool.{cases_lt, cond_both, lt-ltb, le-ltb, true≢false}
+use Rattle.script.specs.declared.mark.Mark.{Mark}
 use Rattle.script.specs.Marks.{mark_of}
-use Rattle.script.specs.Records.{marked, record_at, record_of}
+use Rattle.script.specs.Parsed.{told}
+use Rattle.script.specs.Records.{Record, marked, record_at, record_of}
 use Rattle.script.proofs.Letters.{tested}
 
 from_place : (script : List ℕ) (at from : ℕ) → from ≡ min at (length script) → take (length script - from) (drop from script) ≡ drop at script
@@ -49,8 +51,23 @@ placed script at from n opens is two letters are m e =
     let test' : bytes_eq (take 2 bytes) (codes "CH") ≡ eqb at 0 = ap (λ xs. bytes_eq xs (codes "CH")) (sym front) ∙ test in
     ap (λ xs. marked (mark_of xs) bytes) front ∙ (not_misplaced (eqb at 0) bytes test' ∙ ap (λ xs. record_at (eqb at 0) xs) (from_place script at from is))
 
-pub cut_short : (bytes : List ℕ) → length bytes < 2 → Err 15 ≡ marked None bytes
-cut_short bytes h = let test = lt-ltb (length bytes) 2 h in rw test
+-- what bytes tell of a mark is what they tell of the record: it is read on, or the fault is the record's
+pub told-mark : (start : List ℕ) (o : Option Mark) (m : Mark) → Ok m ≡ told start o → o ≡ Some m
+told-mark start (Some n) m e = cc
+told-mark start None m e = cond_both (nat_lt (length start) 2) (Err 15) (Err 14) (λ r. Ok m ≡ r → None ≡ Some m) (λ _ e. absurd (cc)) (λ _ e. absurd (cc)) e
 
-pub unknown : (bytes : List ℕ) → 2 ≤ length bytes → Err 14 ≡ marked None bytes
-unknown bytes h = let test = le-ltb (length bytes) 2 h in rw test
+told_none : (b : Bool) (n : ℕ) → ◌≡◌ {A = Result Mark ℕ} (Err n) (cond b (Err 15) (Err 14)) → ◌≡◌ {A = Result (Record × ℕ) ℕ} (Err n) (cond b (Err 15) (Err 14))
+told_none true n e = cc
+told_none false n e = cc
+
+pub told-fault : (start bytes : List ℕ) (o : Option Mark) (n : ℕ) → nat_lt (length start) 2 ≡ nat_lt (length bytes) 2 → Err n ≡ told start o → Err n ≡ marked o bytes
+told-fault start bytes (Some m) n same e = absurd (cc)
+told-fault start bytes None n same e = rw (← same) (told_none (nat_lt (length start) 2) n e)
+
+pub start-short : (bytes : List ℕ) (n : ℕ) → n ≡ min (length bytes) 2 → nat_lt (length (take (n - 0) bytes)) 2 ≡ nat_lt (length bytes) 2
+start-short bytes n e =
+    let long = length-take (n - 0) bytes in
+    elim (cases_lt (length bytes) 2) [
+      | inl short ↦ lt-ltb (length (take (n - 0) bytes)) 2 (omega arith) ∙ sym (lt-ltb (length bytes) 2 short)
+      | inr more ↦ le-ltb (length (take (n - 0) bytes)) 2 (omega arith) ∙ sym (le-ltb (length bytes) 2 more)
+    ]

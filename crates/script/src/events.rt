@@ -13,11 +13,7 @@ pub(crate) fn room_after(room: usize, events: &[u32]) -> Option<usize>
 {
     let mut left = room;
     for event in events {
-        let width = 1 + digits(*event as usize);
-        if left < width {
-            return None;
-        }
-        left -= width;
+        left = left.checked_sub(1 + digits(*event as usize))?;
     }
     Some(left)
 }

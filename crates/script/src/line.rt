@@ -1,4 +1,4 @@
-ghost use Rattle.std.specs.Prelude.{◌≡◌, ◌+◌, ◌≤◌, length, nat_le};
+ghost use Rattle.std.specs.Prelude.{◌≡◌, ◌+◌, ◌≤◌, length, is_some, nat_le};
 ghost use Rattle.std.proofs.Math.Seq.{paste};
 ghost use Rattle.script.specs.Lines.{answering, fields, rendered, shown, spaced, Put};
 ghost use Rattle.script.specs.Telling.{OneFeed, LineTells, LinesTell};
@@ -64,7 +64,7 @@ impl<'a> Line<'a> {
                 reader,
                 first,
                 second,
-            } => events_fit(room, 5 + digits(reader), first, second),
+            } => room_after_runs(room, 5 + digits(reader), first, second).is_some(),
             Line::Closed { reader } => 4 + digits(reader) <= room,
             Line::Refused { fault, .. } => 7 + digits(fault.number() as usize) <= room,
         }
@@ -79,7 +79,7 @@ impl<'a> Line<'a> {
         match self {
             Line::Opened { size } => put_number(out, at, size),
             Line::Registered { reader } => put_number(out, at, reader),
-            Line::WouldWrite(yes) => put_number(out, at, if yes { 1 } else { 0 }),
+            Line::WouldWrite(yes) => put_number(out, at, usize::from(yes)),
             Line::Wrote { count, size } => {
                 let place = put_number(out, at, count);
                 let place = put_byte(out, place, b' ');
@@ -118,17 +118,13 @@ impl<'a> Line<'a> {
     }
 }
 
-// Whether so many bytes and the events have room together.
-fn events_fit(room: usize, width: usize, first: &[u32], second: &[u32]) -> bool
-    ensures { result ≡ nat_le (width + (length (spaced first.now) + length (spaced second.now))) room }
+// What is left of so many bytes once these many and the events of both runs stand in them; none where they don't fit.
+fn room_after_runs(room: usize, width: usize, first: &[u32], second: &[u32]) -> Option<usize>
+    ensures { is_some result ≡ nat_le (width + (length (spaced first.now) + length (spaced second.now))) room }
 {
-    if room < width {
-        return false;
-    }
-    let Some(left) = room_after(room - width, first) else {
-        return false;
-    };
-    room_after(left, second).is_some()
+    let left = room.checked_sub(width)?;
+    let left = room_after(left, first)?;
+    room_after(left, second)
 }
 
 // The output can be read back. Nothing is computed; the statements are proved for every answer.

@@ -1,5 +1,8 @@
 ghost use Rattle.std.specs.Prelude.{◌≡◌};
-ghost use Rattle.script.specs.Marks.{mark_of, letters};
+ghost use Rattle.script.specs.Marks.{letters};
+ghost use Rattle.script.specs.Parsed.{Marked};
+
+use source::fault::Fault;
 
 // What a record begins with, and the line that answers it.
 #[derive(Clone, Copy, PartialEq, Eq, Debug)]
@@ -12,28 +15,26 @@ pub enum Mark {
     Close,
 }
 
-const MARKS: [Mark; 6] = [
-    Mark::Opening,
-    Mark::Register,
-    Mark::WouldWrite,
-    Mark::Write,
-    Mark::Read,
-    Mark::Close,
-];
+impl TryFrom<&[u8]> for Mark {
+    type Error = Fault;
+
+    ghost try_from_gives = { λ bytes result. Marked bytes.now result };
+
+    fn try_from(bytes: &[u8]) -> Result<Self, Fault> {
+        match bytes {
+            b"CH" => Ok(Mark::Opening),
+            b"RG" => Ok(Mark::Register),
+            b"WW" => Ok(Mark::WouldWrite),
+            b"WR" => Ok(Mark::Write),
+            b"RD" => Ok(Mark::Read),
+            b"CL" => Ok(Mark::Close),
+            [] | [_] => Err(Fault::CutShort),
+            _ => Err(Fault::UnknownMark),
+        }
+    }
+}
 
 impl Mark {
-    // The mark that these bytes are, if they are one.
-    pub fn of(bytes: &[u8]) -> Option<Mark>
-        ensures { result ≡ mark_of bytes.now }
-    {
-        for mark in &MARKS {
-            if bytes == mark.letters().as_slice() {
-                return Some(*mark);
-            }
-        }
-        None
-    }
-
     pub fn letters(self) -> &'static [u8; 2]
         ensures { result.now ≡ letters self }
     {

@@ -6,7 +6,10 @@ pub(crate) fn digits(n: usize) -> usize
     ensures value { result ≡ length (decimal n) }
     ensures bound { result ≤ 20 }
 {
-    if n < 10 { 1 } else { digits(n / 10) + 1 }
+    match n.checked_ilog10() {
+        Some(power) => power as usize + 1,
+        None => 1,
+    }
 }
 
 // Writes a byte and answers the place after it.
@@ -36,9 +39,7 @@ pub(crate) fn put_number(out: &mut [u8], at: usize, n: usize) -> usize
     ensures end { result ≡ at + length (decimal n) }
     ensures after { out.new ≡ paste out.old at (decimal n) (length (decimal n)) }
 {
-    if n < 10 {
-        return put_byte(out, at, b'0' + n as u8);
-    }
-    let last = put_number(out, at, n / 10);
-    put_byte(out, last, b'0' + (n % 10) as u8)
+    let end = at + digits(n);
+    itoa::write_digits(n as u64, out, end);
+    end
 }

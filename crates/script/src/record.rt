@@ -21,10 +21,8 @@ impl<'a> Source<Number> for Numbers<'a> {
     }
 
     fn next(&mut self) -> Option<Number> {
-        let Some(number) = self.bytes.first_chunk::<4>() else {
-            return None;
-        };
-        self.bytes = &self.bytes[4..];
+        let (number, rest) = self.bytes.split_first_chunk::<4>()?;
+        self.bytes = rest;
         Some(Number::from_be_bytes(*number))
     }
 }
@@ -48,10 +46,7 @@ fn size(mark: Mark, bytes: &[u8]) -> usize
         Mark::Register | Mark::WouldWrite => 2,
         Mark::Read | Mark::Close => 3,
         Mark::Opening => 4,
-        Mark::Write => match bytes.get(2) {
-            Some(count) => 3 + 4 * *count as usize,
-            None => 3,
-        },
+        Mark::Write => 3 + 4 * usize::from(bytes.get(2).copied().unwrap_or(0)),
     }
 }
 
@@ -90,10 +85,6 @@ impl<'a> Record<'a> {
         if opens != (at == 0) {
             return Err(Fault::MisplacedOpening);
         }
-        match Mark::of(start) {
-            Some(mark) => Record::body(mark, bytes),
-            None if bytes.len() < 2 => Err(Fault::CutShort),
-            None => Err(Fault::UnknownMark),
-        }
+        Record::body(Mark::try_from(start)?, bytes)
     }
 }

@@ -34,36 +34,36 @@ returns-in_err-at c =
     let whole = was.rest c.loop-found.out r rest in
     rw (p.1, p.2) (begun_at c.args.records c.into_iter-found-iterator.result _ _ _ _ _ _ c.into_iter-found-iterator.ensures.into_iter_gives c.new-session.ensures whole)
 
-pub returns-in_err-written : goal.returns-in_err-written
-returns-in_err-written c =
+pub returns-in_err-end : goal.returns-in_err-end
+returns-in_err-end c =
     let was = c.loop-found.invariant in
     let script = c.into_iter-found-iterator.result.script.now in
-    let found = c.in_err-written.field-0.0 in
-    let placed : Placed c.in_ok-at.at c.step-end.result c.map_err.result = search rules in
-    let full = placed-err c.in_ok-at.at c.step-end.result c.map_err.result found placed c.in_err-written.was in
-    let p = err_from_is_err_and c.from_residual-in_err-written.result c.from_residual-in_err-written.ensures.1 in
+    let found = c.in_err-end.field-0.0 in
+    let placed : Placed c.in_ok-at.at c.step.result c.map_err.result = search rules in
+    let full = placed-err c.in_ok-at.at c.step.result c.map_err.result found placed c.in_err-end.was in
+    let p = err_from_is_err_and c.from_residual-in_err-end.result c.from_residual-in_err-end.ensures.1 in
     let r : Ran = record { written = c.loop-found.written; fault = Some found } in
     let l = ledger_in c.loop-found.session in
     let record' = meant c.in_ok-at.record in
     let left = record-given script c.loop-found.found-iterator c.next.new.self was.script c.in-Some.found c.in-Some.ensures.steps (c.in_ok-at.at, c.in_ok-at.record) c.in_ok-at.was was.within in
-    let put = subst (λ e. Put c.loop-found.out c.loop-found.written (rendered (answered l record').0) c.step-end.new.out e) full.0 c.step-end.ensures.line in
+    let put = subst (λ e. Put c.loop-found.out c.loop-found.written (rendered (answered l record').0) c.step.new.out e) full.0 c.step.ensures.line in
     let told = ap (λ n. Some (number_of found.fault, n)) full.1 in
-    let rest = carries_full script c.loop-found.found-iterator.next l c.loop-found.out c.loop-found.written c.in_ok-at.at record' c.next.new.self.next was.room left.1 c.step-end.new.out found.fault r put refl told in
-    let whole = was.rest c.step-end.new.out r rest in
+    let rest = carries_full script c.loop-found.found-iterator.next l c.loop-found.out c.loop-found.written c.in_ok-at.at record' c.next.new.self.next was.room left.1 c.step.new.out found.fault r put refl told in
+    let whole = was.rest c.step.new.out r rest in
     rw (p.1, p.2) (begun_at c.args.records c.into_iter-found-iterator.result _ _ _ _ _ _ c.into_iter-found-iterator.ensures.into_iter_gives c.new-session.ensures whole)
 
 pub loop-found-preserved : goal.loop-found-preserved
 loop-found-preserved c =
     let was = c.loop-found.invariant in
     let script = c.into_iter-found-iterator.result.script.now in
-    let placed : Placed c.in_ok-at.at c.step-end.result c.map_err.result = search rules in
-    let end = c.in_ok-written.field-0 in
+    let placed : Placed c.in_ok-at.at c.step.result c.map_err.result = search rules in
+    let end = c.in_ok-end.end in
     let l = ledger_in c.loop-found.session in
     let record' = meant c.in_ok-at.record in
     let left = record-given script c.loop-found.found-iterator c.next.new.self was.script c.in-Some.found c.in-Some.ensures.steps (c.in_ok-at.at, c.in_ok-at.record) c.in_ok-at.was was.within in
-    let put = subst (λ e. Put c.loop-found.out c.loop-found.written (rendered (answered l record').0) c.step-end.new.out e) (placed-ok c.in_ok-at.at c.step-end.result c.map_err.result end placed c.in_ok-written.was) c.step-end.ensures.line in
+    let put = subst (λ e. Put c.loop-found.out c.loop-found.written (rendered (answered l record').0) c.step.new.out e) (placed-ok c.in_ok-at.at c.step.result c.map_err.result end placed c.in_ok-end.was) c.step.ensures.line in
     let fits = put.1 in
-    let wide = c.step-end.auto.out in
+    let wide = c.step.auto.out in
     record {
       can = tt;
       ends = tt;
@@ -74,8 +74,8 @@ loop-found-preserved c =
           λ after r more.
           was.rest after r
           (carries_more script c.loop-found.found-iterator.next l c.loop-found.out c.loop-found.written c.in_ok-at.at record' c.next.new.self.next was.room left.1
-          c.step-end.new.out after end r put
-          (subst (λ k. Carries script c.next.new.self.next k c.step-end.new.out end after r) c.step-end.ensures.ledger more));
+          c.step.new.out after end r put
+          (subst (λ k. Carries script c.next.new.self.next k c.step.new.out end after r) c.step.ensures.ledger more));
     }
 
 pub returns : goal.returns

@@ -3,13 +3,15 @@ use Rattle.std.proofs.lemmas.List.{take_all}
 use Rattle.script.proofs.Spaced.{spaced-turn}
 use Rattle.script.proofs.events.room_after.Goals as goal
 
-pub returns-then-left-width : goal.returns-then-left-width
-returns-then-left-width c =
-    let turn = spaced-turn c.args.events.now c.loop-event.event-index (omega arith) in omega arith
+pub returns-in_err-left : goal.returns-in_err-left
+returns-in_err-left c =
+    let turn = spaced-turn c.args.events.now c.loop-event.event-index (omega arith) in
+    rw c.from_residual.ensures (omega (arith, c.in_err-left.ensures))
 
 pub loop-event-preserved : goal.loop-event-preserved
 loop-event-preserved c =
-    let turn = spaced-turn c.args.events.now c.loop-event.event-index (omega arith) in omega arith
+    let turn = spaced-turn c.args.events.now c.loop-event.event-index (omega arith) in
+    omega (arith, c.in_ok-left.ensures)
 
 pub returns : goal.returns
 returns c =

@@ -1,4 +1,4 @@
-use Rattle.std.proofs.Common.{◌+◌, ◌++◌, length, decimal, ap, arith}
+use Rattle.std.proofs.Common.{◌+◌, ◌++◌, length, decimal, ap, ◌∙◌, arith}
 use Rattle.source.specs.Faults.{number_of}
 use Rattle.script.specs.Lines.{opened, registered, would_write, wrote, handed, closed, refused, shown, spaced}
 use Rattle.script.proofs.Fields.{fits_line, fits_told, length-flag, length-wrote, length-handed, length-refused}
@@ -25,7 +25,7 @@ returns-in-Handed c =
     let first = c.in-Handed.first.now in
     let second = c.in-Handed.second.now in
     let long = length-handed c.in-Handed.reader first second in
-    fits_told c.args.self (handed c.in-Handed.reader (first ++ second)) (5 + c.digits-in-Handed.result + (length (spaced first) + length (spaced second))) c.args.room c.events_fit.result c.events_fit.ensures (ap shown c.in-Handed.is) (omega arith)
+    fits_told c.args.self (handed c.in-Handed.reader (first ++ second)) (5 + c.digits-in-Handed.result + (length (spaced first) + length (spaced second))) c.args.room c.is_some.result (c.is_some.ensures ∙ c.room_after_runs.ensures) (ap shown c.in-Handed.is) (omega arith)
 
 pub returns-in-Closed : goal.returns-in-Closed
 returns-in-Closed c = fits_line c.args.self (closed c.in-Closed.reader) (4 + c.digits-in-Closed.result) c.args.room (ap shown c.in-Closed.is) (omega arith)

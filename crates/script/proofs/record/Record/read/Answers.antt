@@ -1,22 +1,23 @@
-use Rattle.std.proofs.Common.{ap, ◌∙◌}
+use Rattle.std.proofs.Common.{ap, sym, ◌∙◌}
+use Rattle.std.proofs.lemmas.Result.{err_from_is_err_and}
+use Rattle.source.specs.Faults.{number_of}
 use Rattle.script.specs.Records.{marked}
-use Rattle.script.proofs.Starts.{cut, placed, cut_short, unknown}
+use Rattle.script.proofs.Starts.{cut, placed, told-mark, told-fault, start-short}
 use Rattle.script.proofs.record.Record.read.Goals as goal
 
-pub returns-in-Some : goal.returns-in-Some
-returns-in-Some c =
+pub returns-in_err-try_from : goal.returns-in_err-try_from
+returns-in_err-try_from c =
+    let script = c.args.script.now in
+    let bytes = cut script c.min.result in
+    let p = err_from_is_err_and c.from_residual.result c.from_residual.ensures.1 in
+    rw (p.1, p.2)
+    (told-fault _ bytes _ (number_of c.in_err-try_from.field-0.0) (start-short bytes c.min-2.result c.min-2.ensures) c.in_err-try_from.ensures
+    ∙ placed script c.args.at c.min.result c.min-2.result c.eq-opens.result c.min.ensures c.min-2.ensures c.as_slice.result.now c.as_slice.ensures c.eq-opens.ensures c.if-opens-at.false)
+
+pub returns : goal.returns
+returns c =
+    let script = c.args.script.now in
+    let bytes = cut script c.min.result in
     c.body.ensures
-    ∙ (ap (λ m. marked m (cut c.args.script.now c.min.result)) c.in-Some.ensures
-    ∙ placed c.args.script.now c.args.at c.min.result c.min-2.result c.eq-opens.result c.min.ensures c.min-2.ensures c.as_slice.result.now c.as_slice.ensures c.eq-opens.ensures c.if-opens-at.false)
-
-pub returns-in-None : goal.returns-in-None
-returns-in-None c =
-    cut_short (cut c.args.script.now c.min.result) c.if-bytes-lt2.true
-    ∙ (ap (λ m. marked m (cut c.args.script.now c.min.result)) c.in-None.ensures
-    ∙ placed c.args.script.now c.args.at c.min.result c.min-2.result c.eq-opens.result c.min.ensures c.min-2.ensures c.as_slice.result.now c.as_slice.ensures c.eq-opens.ensures c.if-opens-at.false)
-
-pub returns-in-None-2 : goal.returns-in-None-2
-returns-in-None-2 c =
-    unknown (cut c.args.script.now c.min.result) c.if-bytes-lt2.false
-    ∙ (ap (λ m. marked m (cut c.args.script.now c.min.result)) c.in-None.ensures
-    ∙ placed c.args.script.now c.args.at c.min.result c.min-2.result c.eq-opens.result c.min.ensures c.min-2.ensures c.as_slice.result.now c.as_slice.ensures c.eq-opens.ensures c.if-opens-at.false)
+    ∙ (ap (λ m. marked m bytes) (sym (told-mark _ _ c.in_ok-try_from.field-0 c.in_ok-try_from.ensures))
+    ∙ placed script c.args.at c.min.result c.min-2.result c.eq-opens.result c.min.ensures c.min-2.ensures c.as_slice.result.now c.as_slice.ensures c.eq-opens.ensures c.if-opens-at.false)
