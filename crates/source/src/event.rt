@@ -19,12 +19,11 @@ impl fmt::Display for Quote {
     ghost output = { λ q. Some (quote_text q) };
 
     fn fmt<W: fmt::Write>(&self, f: &mut fmt::Formatter<W>) -> fmt::Result {
-        let Quote {
-            instrument,
-            bid,
-            ask,
-        } = *self;
-        write!(f, "instrument {instrument}: bid {bid}, ask {ask}")
+        write!(
+            f,
+            "instrument {}: bid {}, ask {}",
+            self.instrument, self.bid, self.ask
+        )
     }
 }
 
@@ -37,6 +36,16 @@ pub struct Leg {
 }
 
 impl Leg {
+    pub fn new(instrument: u32, quantity: i32, expiry: u16) -> Self
+        ensures { result ≡ record { instrument = instrument; quantity = quantity; expiry = expiry } }
+    {
+        Leg {
+            instrument,
+            quantity,
+            expiry,
+        }
+    }
+
     // Whether the leg still trades: its expiry isn't before today.
     pub fn is_live(&self, today: u16) -> bool
         ensures { result ≡ live today self.now }
@@ -49,14 +58,10 @@ impl fmt::Display for Leg {
     ghost output = { λ l. Some (leg_text l) };
 
     fn fmt<W: fmt::Write>(&self, f: &mut fmt::Formatter<W>) -> fmt::Result {
-        let Leg {
-            instrument,
-            quantity,
-            expiry,
-        } = *self;
         write!(
             f,
-            "{quantity} of instrument {instrument}, expiry on day {expiry}"
+            "{} of instrument {}, expiry on day {}",
+            self.quantity, self.instrument, self.expiry
         )
     }
 }

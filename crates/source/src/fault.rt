@@ -32,7 +32,7 @@ pub enum Fault {
 }
 
 impl Fault {
-    // Plainer at each call than a `From<Fault> for u8`.
+    // The number that hosts rely on, by a name that says so, as a `From<Fault> for u8` would not.
     pub fn number(self) -> u8
         ensures { result ≡ number_of self }
     {

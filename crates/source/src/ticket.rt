@@ -11,7 +11,7 @@ use crate::live::LiveLegs;
 // The most legs that a ticket is made of, live or not.
 pub const MOST_LEGS: usize = 256;
 
-// What comes next.
+// What comes next. A chain of iterators would need no stage, but a struct can't name the type of its closures.
 #[derive(Clone, Copy)]
 enum Stage {
     Header,

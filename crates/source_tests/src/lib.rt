@@ -26,11 +26,7 @@ mod tests {
     }
 
     fn leg(expiry: u16) -> Leg {
-        Leg {
-            instrument: 4,
-            quantity: -1,
-            expiry,
-        }
+        Leg::new(4, -1, expiry)
     }
 
     #[test]
@@ -99,10 +95,6 @@ mod tests {
         assert_eq!(rt; Range::new(0, 4_294_967_295).len(), 4_294_967_295);
     }
 
-    fn refusal<T: Drop>(answer: Result<T, Fault>) -> Option<u8> {
-        answer.err().map(|fault| fault.number())
-    }
-
     #[test]
     fn drains(rt: HostRuntime) -> Result<(), Fail> {
         let buffer = [5u32, 6, 7];
@@ -115,7 +107,7 @@ mod tests {
         assert_eq!(rt; out, [6, 7, 0, 0]);
         assert_eq!(rt; buffer, [5, 6, 7]);
         assert_eq!(rt; Drain::new(&buffer, 0)?.len(), 0);
-        assert_eq!(rt; refusal(Drain::new(&buffer, 4)), Some(10));
+        assert_eq!(rt; Drain::new(&buffer, 4).err().map(Fault::number), Some(10));
         Ok(())
     }
 
@@ -169,7 +161,10 @@ mod tests {
         let legs = [leg(100); 257];
         assert_eq!(rt; Ticket::new(1, 100, &legs[0..256])?.len(), 258);
         assert_eq!(rt; Ticket::new(1, 100, &legs[0..0])?.len(), 2);
-        assert_eq!(rt; refusal(Ticket::new(1, 100, &legs)), Some(11));
+        assert_eq!(rt;
+            Ticket::new(1, 100, &legs).err().map(Fault::number),
+            Some(11)
+        );
         Ok(())
     }
 }

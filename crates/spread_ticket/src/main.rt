@@ -17,6 +17,7 @@ struct Tally {
 }
 
 impl Tally {
+    // Counts an event, and prints it in other words than its `Display`.
     fn note(&mut self, rt: &HostRuntime, event: TicketEvent) -> io::Result<()> {
         self.events = self.events.saturating_add(1);
         match event {
@@ -40,6 +41,7 @@ fn send(rt: &HostRuntime, mut source: Ticket) -> io::Result<()> {
     let announced = source.len();
     println!(rt; "  announced: {announced} events")?;
     let mut tally = Tally::default();
+    // As many draws as were announced; a draw that gives none is not counted, and the last line says so.
     for _ in 0..announced {
         if let Some(event) = source.next() {
             tally.note(rt, event)?;
@@ -67,22 +69,14 @@ fn show(rt: &HostRuntime, ticket: u32, legs: &[Leg]) -> io::Result<()> {
     }
 }
 
-fn leg(instrument: u32, quantity: i32, expiry: u16) -> Leg {
-    Leg {
-        instrument,
-        quantity,
-        expiry,
-    }
-}
-
 fn main(rt: HostRuntime) -> io::Result<()> {
     let spread = [
-        leg(501, 10, 9800),
-        leg(502, -20, 9799),
-        leg(503, -20, 9830),
-        leg(504, 10, 9861),
+        Leg::new(501, 10, 9800),
+        Leg::new(502, -20, 9799),
+        Leg::new(503, -20, 9830),
+        Leg::new(504, 10, 9861),
     ];
     show(&rt, 31, &spread)?;
-    show(&rt, 32, &[leg(505, 1, 9700), leg(506, -1, 9799)])?;
-    show(&rt, 33, &[leg(507, 1, 9900); 257])
+    show(&rt, 32, &[Leg::new(505, 1, 9700), Leg::new(506, -1, 9799)])?;
+    show(&rt, 33, &[Leg::new(507, 1, 9900); 257])
 }
