@@ -26,14 +26,6 @@ fn quote(instrument: u32, bid: i64) -> Quote {
     }
 }
 
-fn leg(instrument: u32, quantity: i32, expiry: u16) -> Leg {
-    Leg {
-        instrument,
-        quantity,
-        expiry,
-    }
-}
-
 // The blotter reads at once. Risk lags until the ring has grown and can't grow again.
 fn burst(
     rt: &HostRuntime,
@@ -136,10 +128,10 @@ fn quote_day(
 fn ticket_day(rt: &HostRuntime, tickets: &mut Feed<TicketEvent>) -> Result<(), Stop> {
     println!(rt; "\nAfternoon of day {TODAY}.")?;
     let legs = [
-        leg(501, 10, 9800),
-        leg(502, -20, 9799),
-        leg(503, -20, 9830),
-        leg(504, 10, 9861),
+        Leg::new(501, 10, 9800),
+        Leg::new(502, -20, 9799),
+        Leg::new(503, -20, 9830),
+        Leg::new(504, 10, 9861),
     ];
     Window::visit(rt, tickets, Reader::Orders, |orders, tickets| {
         tickets.write(rt, &mut Ticket::new(31, TODAY, &legs)?)?;
