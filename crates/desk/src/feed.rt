@@ -69,8 +69,7 @@ impl<E: Copy> Feed<E> {
                 println!(rt; "Events written to the {topic}: {count}. The size is {size}.")?;
             }
             Err(fault) => {
-                let number = fault.number();
-                println!(rt; "Nothing written to the {topic}: refusal {number}.")?;
+                println!(rt; "Nothing written to the {topic}: refusal {fault}.")?;
             }
         }
         Ok(())

@@ -3,7 +3,6 @@
 
 mod feed;
 mod names;
-mod says;
 mod stop;
 mod window;
 
@@ -24,14 +23,6 @@ fn quote(instrument: u32, bid: i64) -> Quote {
         instrument,
         bid,
         ask: bid.saturating_add(20),
-    }
-}
-
-fn leg(instrument: u32, quantity: i32, expiry: u16) -> Leg {
-    Leg {
-        instrument,
-        quantity,
-        expiry,
     }
 }
 
@@ -71,44 +62,24 @@ fn lull(
     risk.show(rt, quotes)
 }
 
-fn beside_blotter(
-    rt: &HostRuntime,
-    quotes: &mut Feed<Quote>,
-    blotter: &mut Window<Quote>,
-    risk: &mut Window<Quote>,
-) -> Result<(), Stop> {
-    burst(rt, quotes, blotter, risk)?;
-    lull(rt, quotes, blotter, risk)
-}
-
-// Whoever opens a window lends it to the work of its day, which may end early, and closes it then in any case.
 fn morning(
     rt: &HostRuntime,
     quotes: &mut Feed<Quote>,
     risk: &mut Window<Quote>,
 ) -> Result<(), Stop> {
     println!(rt; "\nMorning.")?;
-    let mut blotter = Window::enter(rt, quotes, Reader::Blotter)?;
-    let done = beside_blotter(rt, quotes, &mut blotter, risk);
-    blotter.leave(rt, quotes)?;
-    done
-}
-
-fn headline(
-    rt: &HostRuntime,
-    quotes: &mut Feed<Quote>,
-    news: &mut Window<Quote>,
-) -> Result<(), Stop> {
-    quotes.write_one(rt, quote(1, 108_540))?;
-    news.show(rt, quotes)
+    Window::visit(rt, quotes, Reader::Blotter, |blotter, quotes| {
+        burst(rt, quotes, blotter, risk)?;
+        lull(rt, quotes, blotter, risk)
+    })
 }
 
 // News takes the number that the blotter had, and receives only what is written from now on.
 fn late_morning(rt: &HostRuntime, quotes: &mut Feed<Quote>) -> Result<(), Stop> {
-    let mut news = Window::enter(rt, quotes, Reader::News)?;
-    let done = headline(rt, quotes, &mut news);
-    news.leave(rt, quotes)?;
-    done
+    Window::visit(rt, quotes, Reader::News, |news, quotes| {
+        quotes.write_one(rt, quote(1, 108_540))?;
+        news.show(rt, quotes)
+    })
 }
 
 // What Risk reads is written into the mirror straight from the slots that it lies in.
@@ -136,21 +107,9 @@ fn noon(
     mirror: &mut Feed<Quote>,
 ) -> Result<(), Stop> {
     println!(rt; "\nNoon.")?;
-    let mut overseas = Window::enter(rt, mirror, Reader::Overseas)?;
-    let done = relay(rt, quotes, risk, mirror, &mut overseas);
-    overseas.leave(rt, mirror)?;
-    done
-}
-
-fn beside_risk(
-    rt: &HostRuntime,
-    quotes: &mut Feed<Quote>,
-    mirror: &mut Feed<Quote>,
-    risk: &mut Window<Quote>,
-) -> Result<(), Stop> {
-    morning(rt, quotes, risk)?;
-    late_morning(rt, quotes)?;
-    noon(rt, quotes, risk, mirror)
+    Window::visit(rt, mirror, Reader::Overseas, |overseas, mirror| {
+        relay(rt, quotes, risk, mirror, overseas)
+    })
 }
 
 fn quote_day(
@@ -158,34 +117,26 @@ fn quote_day(
     quotes: &mut Feed<Quote>,
     mirror: &mut Feed<Quote>,
 ) -> Result<(), Stop> {
-    let mut risk = Window::enter(rt, quotes, Reader::Risk)?;
-    let done = beside_risk(rt, quotes, mirror, &mut risk);
-    risk.leave(rt, quotes)?;
-    done
+    Window::visit(rt, quotes, Reader::Risk, |risk, quotes| {
+        morning(rt, quotes, risk)?;
+        late_morning(rt, quotes)?;
+        noon(rt, quotes, risk, mirror)
+    })
 }
 
 // A spread of four legs, of which one expired yesterday.
-fn spread(
-    rt: &HostRuntime,
-    tickets: &mut Feed<TicketEvent>,
-    orders: &mut Window<TicketEvent>,
-) -> Result<(), Stop> {
-    let legs = [
-        leg(501, 10, 9800),
-        leg(502, -20, 9799),
-        leg(503, -20, 9830),
-        leg(504, 10, 9861),
-    ];
-    tickets.write(rt, &mut Ticket::new(31, TODAY, &legs)?)?;
-    orders.show(rt, tickets)
-}
-
 fn ticket_day(rt: &HostRuntime, tickets: &mut Feed<TicketEvent>) -> Result<(), Stop> {
     println!(rt; "\nAfternoon of day {TODAY}.")?;
-    let mut orders = Window::enter(rt, tickets, Reader::Orders)?;
-    let done = spread(rt, tickets, &mut orders);
-    orders.leave(rt, tickets)?;
-    done
+    let legs = [
+        Leg::new(501, 10, 9800),
+        Leg::new(502, -20, 9799),
+        Leg::new(503, -20, 9830),
+        Leg::new(504, 10, 9861),
+    ];
+    Window::visit(rt, tickets, Reader::Orders, |orders, tickets| {
+        tickets.write(rt, &mut Ticket::new(31, TODAY, &legs)?)?;
+        orders.show(rt, tickets)
+    })
 }
 
 fn main(rt: HostRuntime) -> Result<(), Stop> {

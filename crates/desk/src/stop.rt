@@ -1,21 +1,12 @@
 use source::fault::Fault;
 use std::io;
+use thiserror::Error;
 
 // Why the day ends early.
-#[derive(Debug, Drop)]
+#[derive(Debug, Drop, Error)]
 pub enum Stop {
-    Output(io::Error),
-    Refused(Fault),
-}
-
-impl From<io::Error> for Stop {
-    fn from(error: io::Error) -> Stop {
-        Stop::Output(error)
-    }
-}
-
-impl From<Fault> for Stop {
-    fn from(fault: Fault) -> Stop {
-        Stop::Refused(fault)
-    }
+    #[error("the output failed: {0}")]
+    Output(#[from] io::Error),
+    #[error("refusal {0}")]
+    Refused(#[from] Fault),
 }

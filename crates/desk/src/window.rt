@@ -1,9 +1,9 @@
 use crate::feed::Feed;
 use crate::names::{Reader, Topic};
-use crate::says::Says;
 use crate::stop::Stop;
 use shrev::id::ReaderId;
 use source::fault::Fault;
+use std::fmt::Display;
 
 // A window on the desk, which reads one feed. It has to leave: its id is neither copied nor merely left.
 pub struct Window<E> {
@@ -12,7 +12,22 @@ pub struct Window<E> {
 }
 
 impl<E> Window<E> {
-    pub(crate) fn enter(rt: &HostRuntime, feed: &mut Feed<E>, name: Reader) -> Result<Self, Stop> {
+    // Opens a window, lends it to the work of its day, which may end early, and closes it then in any case.
+    pub(crate) fn visit<W: FnOnce(&mut Window<E>, &mut Feed<E>) -> Result<(), Stop>>(
+        rt: &HostRuntime,
+        feed: &mut Feed<E>,
+        name: Reader,
+        work: W,
+    ) -> Result<(), Stop>
+        requires { W.IsAlwaysCallable work }
+    {
+        let mut window = Window::enter(rt, feed, name)?;
+        let done = work(&mut window, feed);
+        window.leave(rt, feed)?;
+        done
+    }
+
+    fn enter(rt: &HostRuntime, feed: &mut Feed<E>, name: Reader) -> Result<Self, Stop> {
         let id = feed.channel.register_reader()?;
         let number = id.number();
         let at = feed.topic;
@@ -25,7 +40,7 @@ impl<E> Window<E> {
         }
     }
 
-    pub(crate) fn leave(self, rt: &HostRuntime, feed: &mut Feed<E>) -> Result<(), Stop> {
+    fn leave(self, rt: &HostRuntime, feed: &mut Feed<E>) -> Result<(), Stop> {
         let Window { name, id } = self;
         let number = id.number();
         if let Err((fault, id)) = feed.channel.close(id) {
@@ -38,13 +53,12 @@ impl<E> Window<E> {
 
     fn refused(&self, rt: &HostRuntime, at: Topic, fault: Fault) -> Result<(), Stop> {
         let name = self.name;
-        let number = fault.number();
-        println!(rt; "{name} can't read the {at}: refusal {number}.")?;
+        println!(rt; "{name} can't read the {at}: refusal {fault}.")?;
         Ok(())
     }
 }
 
-impl<E: Copy + Says> Window<E> {
+impl<E: Copy + Display> Window<E> {
     // Reads, and prints what came.
     pub(crate) fn show(&mut self, rt: &HostRuntime, feed: &mut Feed<E>) -> Result<(), Stop> {
         let name = self.name;
@@ -60,7 +74,7 @@ impl<E: Copy + Says> Window<E> {
         }
         println!(rt; "{name} receives:")?;
         for event in first.iter().chain(second) {
-            event.say(rt)?;
+            println!(rt; "  {event}")?;
         }
         Ok(())
     }

@@ -1,7 +1,8 @@
 -- What a reader was handed and what waits for it, over any stretch of a told history. Assumes nothing.
 use Rattle.std.proofs.Common.{◌≡◌, ℕ, ◌<◌, true, ◌≢◌, List, [], ◌∷◌, ◌++◌, length, get_or, set, sym, refl, ap, ◌∙◌, subst, inl, inr, append_assoc, append-nil, arith, get_or-set_other, get_or-set_same}
 use mathlib.Core.Path.{subst⁻¹}
-use Rattle.std.specs.List.{flat_map, AllByRecursion}
+use Rattle.std.specs.List.{AllByRecursion}
+use Rattle.std.proofs.lemmas.Grind.{flat_map-append}
 use Rattle.std.proofs.lemmas.Bool.{cases_eq, eq-eqb, ne_eqb}
 use Rattle.ledger.specs.Ledger.{Ledger, Reader, shut, waiting, Call, Answer, taken, outcome, next_number, is_open, unread, reader_at, waiting_for, Open, joined_by}
 use Rattle.ledger.specs.Ledger.Call.{register, write, read, close}
@@ -13,10 +14,6 @@ use Rattle.ledger.proofs.Readers.{is-open_joined, open_within}
 use Rattle.ledger.proofs.Writing.{reader_after}
 use Rattle.ledger.proofs.Refusals.{by_outcome, meets}
 use Rattle.ledger.proofs.Soundness.{open_not_shut, next-is, keeps_sound}
-
-pub joined_append : {X A : Type 0} (f : X → List A) (xs ys : List X) → flat_map f (xs ++ ys) ≡ flat_map f xs ++ flat_map f ys
-joined_append f [] ys = refl
-joined_append f (x ∷ xs) ys = rw (joined_append f xs ys) (sym (append_assoc (f x) (flat_map f xs) (flat_map f ys)))
 
 pub all_split : {X : Type 0} (P : X → Type 0) (xs ys : List X) → AllByRecursion P (xs ++ ys) → AllByRecursion P xs × AllByRecursion P ys
 all_split P [] ys h = (tt, h)
@@ -156,7 +153,7 @@ module _ {E : Type 0} where
       let h : handed_to n since ≡ [] = nothing-handed n since none_later in (
         after l₃ since,
         after-append l earlier (registration n ∷ ((through ++ since) ++ later)) ∙ after-append l₂ (through ++ since) later ∙ ap (λ k. after k later) (after-append l₂ through since),
-        joined_append (λ e. gave n e.call e.answer) through since ∙ ap (λ xs. handed_to n through ++ xs) (h ∙ sym w₃) ∙ c₂.1 ∙ ap (λ xs. xs ++ accepted through) w₂,
+        flat_map-append (λ e. gave n e.call e.answer) through since ∙ ap (λ xs. handed_to n through ++ xs) (h ∙ sym w₃) ∙ c₂.1 ∙ ap (λ xs. xs ++ accepted through) w₂,
         c₃.0,
         ap (λ xs. xs ++ waiting_for (after l₃ since) n) (sym h) ∙ c₃.1 ∙ ap (λ xs. xs ++ accepted since) w₃,
       )

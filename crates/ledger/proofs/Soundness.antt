@@ -2,7 +2,8 @@
 use Rattle.std.proofs.Common.{◌≡◌, ℕ, ◌+◌, ◌<◌, ◌≤◌, true, false, cond, not, ◌≢◌, List, [], ◌∷◌, map, length, get_or, set, refl, ap, ◌∙◌, inl, inr, arith, length-set, get_or-set_other, get_or-set_same}
 use Rattle.std.specs.List.{AllByRecursion}
 use Rattle.std.proofs.lemmas.List.{length-map, length-replicate}
-use Rattle.std.proofs.ByRecursion.{All-weaker}
+use Rattle.std.proofs.lemmas.List.Elements as elements
+use Rattle.std.proofs.lemmas.List.Elements.{All-from_recursion, recursion_from_All}
 use Rattle.std.proofs.lemmas.Bool.{cases_lt, and_parts, cond-true, cond_both}
 use Rattle.ledger.specs.Ledger.{Ledger, Reader, shut, waiting, Call, Opening, just_opened, most_readers, is_open, unread, joined_by, open_count, reader_at, Open, would_write, number_taken, freed_left, used_then, with_readers, next_number, after_register, need, with_events, is_empty, changes, after_write, after_read, after_close, size_for, taken, outcome}
 use Rattle.ledger.specs.Ledger.Call.{register, write, read, close}
@@ -11,6 +12,10 @@ use Rattle.ledger.specs.Sound.{Sound, Distinct}
 use Rattle.ledger.proofs.Sizes.{size_laws}
 use Rattle.ledger.proofs.Readers.{get_or-map_at, get_or-replicate_any, open_count-joined, longest-joined, open_within, open_count-set, longest-set, bit}
 use Rattle.ledger.proofs.Refusals.{by_outcome, meets}
+
+-- the library's lemma, which is on `All`
+All-weaker : {X : Type 0} (P Q : X → Type 0) → ((x : X) → P x → Q x) → (xs : List X) → AllByRecursion P xs → AllByRecursion Q xs
+All-weaker P Q f xs h = recursion_from_All Q xs (elements.All-weaker P Q f xs (All-from_recursion P xs h))
 
 module _ {E : Type 0} where
   -- an open number is no shut one

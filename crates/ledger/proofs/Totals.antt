@@ -1,12 +1,13 @@
 -- The laws of readers in told histories. Assumes nothing.
 use Rattle.std.proofs.Common.{◌≡◌, List, ◌∷◌, ◌++◌, length, drop, sym, refl, ap, ◌∙◌, subst, append_assoc, append-nil, arith, length-append, drop_at}
 use mathlib.Core.Path.{subst⁻¹}
+use Rattle.std.proofs.lemmas.Grind.{flat_map-append}
 use Rattle.ledger.specs.Ledger.{just_opened, waiting_for, Open}
 use Rattle.ledger.specs.Sound.{Sound}
 use Rattle.ledger.specs.Histories.{Entry, Told, after, accepted, handed_to, registration, Closes, Never, History, at_end, ReaderOf, accepted_to_read, accepted_since, OpenAtEnd}
 use Rattle.ledger.specs.Laws.{StaysSound, EachEventOnce, ReadersHold, EqualTotals, EqualWaiting}
 use Rattle.ledger.proofs.Soundness.{opened-sound, keeps_sound}
-use Rattle.ledger.proofs.Keeping.{joined_append, stays_sound, conservation, holds}
+use Rattle.ledger.proofs.Keeping.{stays_sound, conservation, holds}
 
 -- two ends of one list are equal when they are equally long
 pub same_ends : {X : Type 0} (ps xs qs ys : List X) → ps ++ xs ≡ qs ++ ys → length xs ≡ length ys → xs ≡ ys
@@ -48,7 +49,7 @@ module _ {E : Type 0} where
 
   -- what was accepted since an open reader's latest read ends what was accepted in all
   accepted-end : {es : List (Entry E)} (r : ReaderOf es) → OpenAtEnd r → accepted es ≡ (accepted r.earlier ++ accepted_to_read r) ++ accepted_since r
-  accepted-end r e = ap accepted (parts r) ∙ simp (e, joined_append, append-nil, append_assoc)
+  accepted-end r e = ap accepted (parts r) ∙ simp (e, flat_map-append, append-nil, append_assoc)
 
   pub equal_waiting : EqualWaiting E
   equal_waiting h r s o u =

@@ -20,6 +20,8 @@ pub fn count_in(note: &Note) -> usize
 }
 
 // Makes every call of the list, with room for all that they can answer. Answers how many events went to the log.
+// A struct of the channel, slots, others and ids is no plainer: `run` and `step` would each have to say that its three
+// references stay the same ones and that the slots keep their length, which goes without saying for parameters.
 fn run<E: Copy, S: Source<E>>(
     channel: &mut EventChannel<E>,
     slots: &mut [E],
@@ -35,6 +37,7 @@ fn run<E: Copy, S: Source<E>>(
     ensures others { others.new ≡ others.old }
 {
     let mut at = 0;
+    // no `zip` with the notes: the library says nothing of what a slice ends as whose `iter_mut` goes through an adapter
     for (i, call) in calls.iter_mut().enumerate() {
         let note = step(channel, slots, others, ids, call, &mut log[at..]);
         notes[i] = note;
@@ -45,7 +48,8 @@ fn run<E: Copy, S: Source<E>>(
 
 // Opens a channel of the given size over all of the slots, and runs the list of calls on it. Each call has a note, and the
 // events that were handed out stand in the log, one after another. Nothing allocates: where notes or log might not do, or
-// the opening is refused, no call is made.
+// the opening is refused, no call is made. The caller supplies notes beside the calls, so there can be too few of them.
+// The six slices stay parameters: of a struct by value a clause names what is left behind each reference by its place alone.
 pub fn replay<E: Copy, S: Source<E>>(
     issuer: &mut Issuer,
     size: usize,
