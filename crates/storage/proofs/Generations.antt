@@ -3,7 +3,7 @@ use Rattle.std.proofs.Common.{◌≡◌, ℕ, ◌+◌, ◌-◌, ◌%◌, ◌^◌
 use native.Mathlib.Nat.{mod-eq-sub-mod}
 use Rattle.std.proofs.lemmas.Bool.{cases_lt}
 use Rattle.storage.specs.Kept.{lag}
-use Rattle.storage.proofs.Storing.{next-inner, next-wraps}
+use Rattle.storage.proofs.Storing.{next-wraps}
 
 -- the lag, without a remainder
 lag-below : (g r : ℕ) → g < r → r < 2 ^ 64 → lag g r ≡ g + 2 ^ 64 - r
@@ -22,12 +22,13 @@ lag-raised g r a b c =
     (λ (below : g < r).
     let was = lag-below g r below b in
     let less : g + 1 < r = omega arith in
-    rw (next-inner (2 ^ 64) g (omega arith)) (lag-below (g + 1) r less b ∙ omega arith))
+    let inner : g + 1 < 2 ^ 64 = omega arith in
+    rw (mod-eq_of_lt inner) (lag-below (g + 1) r less b ∙ omega arith))
     (λ (above : r ≤ g). ⊎_elim
     (λ (inner : g + 1 < 2 ^ 64).
     let was = lag-above g r above a in
     let more : r ≤ g + 1 = omega arith in
-    rw (next-inner (2 ^ 64) g inner) (lag-above (g + 1) r more inner ∙ omega arith))
+    rw (mod-eq_of_lt inner) (lag-above (g + 1) r more inner ∙ omega arith))
     (λ (wraps : 2 ^ 64 ≤ g + 1).
     let was = lag-above g r above a in
     let same : g + 1 ≡ 2 ^ 64 = omega arith in
@@ -43,7 +44,7 @@ pub raised-apart : (g r : ℕ) → g < 2 ^ 64 → r < 2 ^ 64 → lag g r + 1 < 2
 raised-apart g r a b c e =
     ⊎_elim
     (λ (inner : g + 1 < 2 ^ 64).
-    let is : r ≡ g + 1 = e ∙ next-inner (2 ^ 64) g inner in
+    let is : r ≡ g + 1 = e ∙ mod-eq_of_lt inner in
     let less : g < r = omega arith in
     omega (arith, lag-below g r less b))
     (λ (wraps : 2 ^ 64 ≤ g + 1).

@@ -1,11 +1,11 @@
 -- Growth keeps what waits: each distance rises by as much as the size.
-use Rattle.std.proofs.Common.{◌≡◌, ℕ, ◌+◌, ◌-◌, ◌%◌, ◌<◌, ◌≤◌, List, ◌++◌, length, take, drop, ⊎_elim, append_assoc, arith, length-drop, length-take}
+use Rattle.std.proofs.Common.{◌≡◌, ℕ, ◌+◌, ◌-◌, ◌%◌, ◌<◌, ◌≤◌, List, ◌++◌, length, take, drop, ⊎_elim, append_assoc, mod-eq_of_lt, arith, length-drop, length-take}
 use Rattle.std.proofs.lemmas.List.{drop-append-le, drop-drop, drop_all, drop_at, take-append-le, take-take, length-take-le}
 use Rattle.std.proofs.lemmas.List.Edits.{take-paste, length-paste}
 use Rattle.std.proofs.lemmas.Slice.{between_is}
 use Rattle.std.proofs.lemmas.Bool.{cases_lt}
 use Rattle.storage.specs.Slots.{grown, recent}
-use Rattle.storage.proofs.Storing.{next-inner, next-wraps}
+use Rattle.storage.proofs.Storing.{next-wraps}
 
 module _ {E : Type 0} (slots : List E) (p size g : ℕ) (below : p ≤ size) (room : size + g ≤ length slots) where
   pub length-grown : length (grown slots p size g) ≡ length slots
@@ -64,6 +64,6 @@ pub waiting-grown : {E : Type 0} (slots : List E) (last size g d : ℕ) → last
     → drop (d + g) (recent (grown slots ((last + 1) % size) size g) (size + g) (last + 1)) ≡ drop d (recent slots size (last + 1))
 waiting-grown slots last size g d h room wide =
     ⊎_elim
-    (λ inner. rw (next-inner size last inner) (waiting-grown_inner slots (last + 1) size g (omega arith) room d))
+    (λ (inner : last + 1 < size). rw (mod-eq_of_lt inner) (waiting-grown_inner slots (last + 1) size g (omega arith) room d))
     (λ over. let whole : last + 1 ≡ size = omega arith in rw (next-wraps size last whole, whole) (waiting-grown_whole slots size g d room wide))
     (cases_lt (last + 1) size)

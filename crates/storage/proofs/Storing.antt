@@ -7,10 +7,7 @@ use Rattle.std.proofs.lemmas.Bool.{cases_lt}
 use Rattle.storage.specs.Slots.{stored, last_after, recent}
 use Rattle.storage.proofs.Waiting.{length-recent}
 
--- the place after the last is one higher, or 0 at the end of the ring
-pub next-inner : (size last : ℕ) → last + 1 < size → (last + 1) % size ≡ last + 1
-next-inner size last h = mod-eq_of_lt h
-
+-- at the end of the ring the place after the last is 0
 pub next-wraps : (size last : ℕ) → last + 1 ≡ size → (last + 1) % size ≡ 0
 next-wraps size last e = rw e (mod_self size)
 
@@ -52,7 +49,7 @@ module _ {E : Type 0} where
       → recent (set slots ((last + 1) % size) x) size ((last + 1) % size + 1) ≡ drop 1 (recent slots size (last + 1)) ++ x ∷ []
   recent-stored_one slots size last x h k =
       ⊎_elim
-      (λ inner. rw (next-inner size last inner) (recent-put slots size (last + 1) x inner k))
+      (λ (inner : last + 1 < size). rw (mod-eq_of_lt inner) (recent-put slots size (last + 1) x inner k))
       (λ over. let whole : last + 1 ≡ size = omega arith in rw (next-wraps size last whole, whole) (recent-wrap slots size x (omega arith) k))
       (cases_lt (last + 1) size)
 
