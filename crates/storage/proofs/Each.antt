@@ -81,8 +81,8 @@ module _ {E : Type 0} (r : RingBuffer E) where
       facts r.available last_of size_of r.slots r.generation rs r.small r.room r.few r.spare all
 
   -- the same, where the entry has just registered or read
-  pub with-fresh : (rs : List (Option Reader)) (n : ℕ) → r.generation < 2 ^ 64 → rs ≡ set r.meta.readers n (Some (fresh last_of r.generation)) → With rs
-  with-fresh rs n fits same =
+  pub with-fresh : (rs : List (Option Reader)) (n : ℕ) → rs ≡ set r.meta.readers n (Some (fresh last_of r.generation)) → r.generation < 2 ^ 64 → With rs
+  with-fresh rs n same fits =
       with_set rs n (Some (fresh last_of r.generation)) same
       (λ e is. let here : fresh last_of r.generation ≡ e = cc in subst (λ (x : Reader). Fine last_of size_of r.generation r.available x) here (fresh-fine last_of size_of r.generation r.available r.last.within r.spare fits))
 
