@@ -150,7 +150,8 @@ impl ReaderMeta {
         nearest.map(|(id, _)| id)
     }
 
-    // Growth by `by` moves what lies above the last place, and the readers with it.
+    // Growth by `by` moves what lies above the last place, and the readers with it. The loop tests each entry, and does not
+    // go over `iter_mut().flatten()`: of what is written through an adapter of `iter_mut` a proof knows nothing.
     pub(crate) fn shift(&mut self, last: usize, generation: u64, by: usize)
         requires { Places self.old.readers (1048576 - by) }
         ensures { HasParts self.new (map (option_map (shifted last generation by)) self.old.readers) (stack self.old.free) self.old.used }
