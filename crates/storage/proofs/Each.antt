@@ -24,30 +24,9 @@ module _ (last size generation available : ℕ) where
       let none = lag-none generation fits in
       record { ahead = omega arith; place = below; bounded = fits; lags = omega arith; level = λ _. refl }
 
-  -- the same of a table, under the names in the ring's record
-  abbrev pub Kept : List (Option Reader) → Type 0
-  Kept rs =
-      record {
-        ahead : Ahead rs last size generation available;
-        places : Places rs size;
-        bounded : Bounded rs;
-        lags : Lags rs last size generation;
-        level : Level rs last generation;
-      }
-
-  pub kept : (rs : List (Option Reader)) → Each Fine rs → Kept rs
-  kept rs fine =
-      record {
-        ahead = λ k r is. (fine k r is).ahead;
-        places = λ k r is. (fine k r is).place;
-        bounded = λ k r is. (fine k r is).bounded;
-        lags = λ k r is. (fine k r is).lags;
-        level = λ k r is. (fine k r is).level;
-      }
-
   -- before anyone registered
-  pub kept_new : Kept (replicate most None)
-  kept_new = kept (replicate most None) (λ k r is. clash _ r (shut-blank most k) is)
+  pub nobody-fine : Each Fine (replicate most None)
+  nobody-fine k r is = clash _ r (shut-blank most k) is
 
 module _ (available last size slots generation : ℕ) (rs : List (Option Reader)) where
   -- all facts of a ring, under the names in its record
@@ -65,18 +44,18 @@ module _ (available last size slots generation : ℕ) (rs : List (Option Reader)
         level : Level rs last generation;
       }
 
-  pub facts : 2 ≤ size → size ≤ slots → slots ≤ 1048576 → available ≤ size → Kept last size generation available rs → Facts
-  facts small room few spare k =
+  pub facts : 2 ≤ size → size ≤ slots → slots ≤ 1048576 → available ≤ size → Each (Fine last size generation available) rs → Facts
+  facts small room few spare fine =
       record {
         small = small;
         room = room;
         few = few;
         spare = spare;
-        ahead = k.ahead;
-        places = k.places;
-        bounded = k.bounded;
-        lags = k.lags;
-        level = k.level;
+        ahead = λ k r is. (fine k r is).ahead;
+        places = λ k r is. (fine k r is).place;
+        bounded = λ k r is. (fine k r is).bounded;
+        lags = λ k r is. (fine k r is).lags;
+        level = λ k r is. (fine k r is).level;
       }
 
 module _ {E : Type 0} (r : RingBuffer E) where
@@ -99,11 +78,11 @@ module _ {E : Type 0} (r : RingBuffer E) where
   with_set rs n o same p =
       let P : Reader → Type 0 = Fine last_of size_of r.generation r.available in
       let all : Each P rs = subst (λ (xs : List (Option Reader)). Each P xs) (sym same) (each_set P r.meta.readers n o p fine_of) in
-      facts r.available last_of size_of r.slots r.generation rs r.small r.room r.few r.spare (kept last_of size_of r.generation r.available rs all)
+      facts r.available last_of size_of r.slots r.generation rs r.small r.room r.few r.spare all
 
   -- the same, where the entry has just registered or read
-  pub with-fresh : (rs : List (Option Reader)) (n : ℕ) → r.generation < 2 ^ 64 → rs ≡ set r.meta.readers n (Some (fresh last_of r.generation)) → With rs
-  with-fresh rs n fits same =
+  pub with-fresh : (rs : List (Option Reader)) (n : ℕ) → rs ≡ set r.meta.readers n (Some (fresh last_of r.generation)) → r.generation < 2 ^ 64 → With rs
+  with-fresh rs n same fits =
       with_set rs n (Some (fresh last_of r.generation)) same
       (λ e is. let here : fresh last_of r.generation ≡ e = cc in subst (λ (x : Reader). Fine last_of size_of r.generation r.available x) here (fresh-fine last_of size_of r.generation r.available r.last.within r.spare fits))
 

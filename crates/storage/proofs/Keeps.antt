@@ -80,11 +80,6 @@ opened-sound rs (n ∷ freed) used r room s =
       apart = IsDistinct-tail nat_eq n freed s.apart;
     }
 
--- the number taken is a number of the table
-pub taken_below : (rs : List (Option Reader)) (freed : List ℕ) (used : ℕ) → lives rs < most → Sound rs freed used → number_taken freed used < most
-taken_below rs [] used room s = omega (arith, s.whole)
-taken_below rs (n ∷ freed) used room s = omega (arith, s.stacked.0.0, s.few)
-
 module _ (rs : List (Option Reader)) (freed : List ℕ) (used n : ℕ) (lv : Live rs n) (s : Sound rs freed used) where
   -- closing
   pub removed-sound : Sound (set rs n None) (n ∷ freed) used
@@ -100,12 +95,6 @@ module _ (rs : List (Option Reader)) (freed : List ℕ) (used n : ℕ) (lv : Liv
         stacked = ((s.numbered n lv, here), stack-set rs n None used freed other s.stacked);
         apart = IsDistinct-cons nat_eq n freed other s.apart;
       }
-
-  -- there is room to put it on the stack
-  pub room-to_free : (length freed < most) × (n < most)
-  room-to_free =
-      let count = lives-from rs n None true false (live-within rs n lv) lv refl in
-      (omega (arith, count, s.whole, s.few), omega (arith, s.numbered n lv, s.few))
 
   -- a read
   pub advanced-sound : (r : Reader) → Sound (set rs n (Some r)) freed used

@@ -16,7 +16,7 @@ use Rattle.storage.specs.declared.ring.RingBuffer.{RingBuffer}
 use Rattle.storage.specs.Ledgers.{reader_of, ledger_with, ledger_of}
 use Rattle.storage.specs.Writes.{with_size, with_joined}
 use Rattle.storage.proofs.Distances.{distance-le, distance-stored, distance-grown, agree_grown, place_grown}
-use Rattle.storage.proofs.Each.{Fine, Facts, facts, kept, fine_of}
+use Rattle.storage.proofs.Each.{Fine, Facts, facts, fine_of}
 use Rattle.storage.proofs.Entries.{each_map}
 use Rattle.storage.proofs.Generations.{lag-raised, raised-apart}
 use Rattle.storage.proofs.Lifts.{map-entries}
@@ -140,7 +140,7 @@ module _ {E : Type 0} (r : RingBuffer E) (fits : r.generation < 2 ^ 64) where
       (λ k x here. grown-fine last size r.generation r.available g some left x (all_fit k x here) (ahead k x here)) in
       rw (e, at, is) (
       facts (left + g) last (size + g) r.slots r.generation moved (omega (arith, r.small)) wide r.few (omega arith)
-      (kept last (size + g) r.generation (left + g) moved fine))
+      fine)
 
   -- and changes the ledger's size alone
   pub grown-ledger : (old new : List E) (h : ReaderMeta) (then : CircularIndex) (g : ℕ)
@@ -157,8 +157,7 @@ module _ {E : Type 0} (r : RingBuffer E) (fits : r.generation < 2 ^ 64) where
   stored-facts then n at is some enough =
       rw (at, is) (
       facts (r.available - n) (last_after size last n) size r.slots ((r.generation + 1) % 2 ^ 64) meta.readers r.small r.room r.few (omega (arith, r.spare))
-      (kept (last_after size last n) size ((r.generation + 1) % 2 ^ 64) (r.available - n) meta.readers
-      (λ k x here. stored-fine last size r.generation r.available n some enough x (all_fit k x here))))
+      (λ k x here. stored-fine last size r.generation r.available n some enough x (all_fit k x here)))
 
   -- and joins the events to every unread list
   pub stored-ledger : (old new : List E) (then : CircularIndex) (xs : List E)

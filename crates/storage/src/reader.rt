@@ -31,6 +31,8 @@ pub struct ReaderMeta {
     ghost apart: { Apart (stack free) } by { Prim.hlevel props },
 }
 
+// A place and a generation come as two parameters, as in shrev: the ring writes its last place and its generation apart, and
+// a struct of both would be made and taken apart again at each call.
 impl Reader {
     pub(crate) fn distance_from(&self, last: CircularIndex, generation: u64) -> usize
         requires { self.now.place < last.size }
@@ -97,8 +99,7 @@ impl ReaderMeta {
         self.free.is_empty() && self.used == READERS
     }
 
-    // The last freed number, else the next unused one. Its reader has read everything up to the place. As in shrev, place and
-    // generation come apart: they are a reader only once they stand in the table.
+    // The last freed number, else the next unused one. Its reader has read everything up to the place.
     pub(crate) fn alloc(&mut self, place: usize, generation: u64) -> usize
         requires { lives self.old.readers < most }
         ensures { Opened self.old self.new (fresh place generation) result }
@@ -149,7 +150,8 @@ impl ReaderMeta {
         nearest.map(|(id, _)| id)
     }
 
-    // Growth by `by` moves what lies above the last place, and the readers with it.
+    // Growth by `by` moves what lies above the last place, and the readers with it. The loop tests each entry, and does not
+    // go over `iter_mut().flatten()`: of what is written through an adapter of `iter_mut` a proof knows nothing.
     pub(crate) fn shift(&mut self, last: usize, generation: u64, by: usize)
         requires { Places self.old.readers (1048576 - by) }
         ensures { HasParts self.new (map (option_map (shifted last generation by)) self.old.readers) (stack self.old.free) self.old.used }

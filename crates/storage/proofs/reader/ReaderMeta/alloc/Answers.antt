@@ -1,8 +1,7 @@
-use Rattle.std.proofs.Common.{◌≡◌, ℕ, Some, set, refl, ap, arith}
-use Rattle.ledger.specs.Ledger.{number_taken}
+use Rattle.std.proofs.Common.{ℕ, Some, set, refl, ap, arith}
 use Rattle.storage.specs.Freed.{stack}
 use Rattle.storage.specs.Registry.{fresh}
-use Rattle.storage.proofs.Keeps.{sound-of, sound_as, opened-sound, taken_below}
+use Rattle.storage.proofs.Keeps.{sound-of, sound_as, opened-sound}
 use Rattle.storage.proofs.reader.ReaderMeta.alloc.Goals as goal
 use Rattle.storage.proofs.reader.ReaderMeta.alloc.Goals.{in-Some, in-None}
 
@@ -14,25 +13,4 @@ invariant_of-self c =
     elim c.match-pop.branch [
       | in-Some w ↦ sound_as _ _ _ _ _ _ (ap put (rw (w.id-is, w.in-Some.ensures) refl)) (rw w.in-Some.ensures refl) (rw (w.self-is, w.in-Some.ensures) refl) sound
       | in-None w ↦ sound_as _ _ _ _ _ _ (ap put (rw (w.id-is, w.in-None.ensures.0) (omega arith))) (rw (w.in-None.ensures.1, w.in-None.ensures.0) refl) (rw (w.self-is, w.in-None.ensures.0) refl) sound
-    ]
-
-pub returns : goal.returns
-returns c =
-    let g = c.args.self.now in
-    let room = taken_below g.readers (stack g.free) g.used c.requires (sound-of g) in
-    elim c.match-pop.branch [
-      | in-Some w ↦
-          let number : c.match-pop.id ≡ number_taken (stack g.free) g.used = rw (w.id-is, w.in-Some.ensures) refl in
-          record {
-            number = number;
-            room = rw number room;
-            parts = record { readers_are = refl; freed_are = rw w.in-Some.ensures refl; used_is = rw (w.self-is, w.in-Some.ensures) refl };
-          }
-      | in-None w ↦
-          let number : c.match-pop.id ≡ number_taken (stack g.free) g.used = rw (w.id-is, w.in-None.ensures.0) (omega arith) in
-          record {
-            number = number;
-            room = rw number room;
-            parts = record { readers_are = refl; freed_are = rw (w.in-None.ensures.1, w.in-None.ensures.0) refl; used_is = rw (w.self-is, w.in-None.ensures.0) refl };
-          }
     ]

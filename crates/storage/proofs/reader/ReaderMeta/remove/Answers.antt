@@ -1,13 +1,7 @@
 use Rattle.std.proofs.Common.{refl}
 use Rattle.storage.specs.Freed.{stack}
-use Rattle.storage.proofs.Keeps.{sound-of, sound_as, removed-sound, room-to_free}
+use Rattle.storage.proofs.Keeps.{sound-of, sound_as, removed-sound}
 use Rattle.storage.proofs.reader.ReaderMeta.remove.Goals as goal
-
-pub push-requires : goal.push-requires
-push-requires c =
-    let g = c.args.self.now in
-    let room = room-to_free g.readers (stack g.free) g.used c.args.id c.requires (sound-of g) in
-    record { room = room.0; small = room.1 }
 
 pub invariant_of-self : goal.invariant_of-self
 invariant_of-self c =

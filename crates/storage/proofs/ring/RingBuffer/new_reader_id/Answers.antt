@@ -10,7 +10,7 @@ returns-then-is_full-clause-ledger g c slots =
     register-none r.instance r.slots slots r.last.index r.last.size r.generation r.meta (search rules)
 
 pub invariant_of-self : goal.invariant_of-self
-invariant_of-self g c = with-fresh c.args.self.now c.alloc.new.self.readers c.alloc.result (omega arith) c.alloc.ensures.parts.readers_are
+invariant_of-self g c = with-fresh c.args.self.now c.alloc.new.self.readers c.alloc.result c.alloc.ensures.parts.readers_are (omega arith)
 
 pub returns-clause-ledger : goal.returns-clause-ledger
 returns-clause-ledger g c slots =

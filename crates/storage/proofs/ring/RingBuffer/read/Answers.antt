@@ -6,7 +6,7 @@ use Rattle.storage.proofs.Handing.{read-hands, same_runs}
 use Rattle.storage.proofs.ring.RingBuffer.read.Goals as goal
 
 pub invariant_of-self : goal.invariant_of-self
-invariant_of-self g c = with-fresh c.args.self.now c.advance.new.self.readers c.args.number (omega arith) c.advance.ensures.readers_are
+invariant_of-self g c = with-fresh c.args.self.now c.advance.new.self.readers c.args.number c.advance.ensures.readers_are (omega arith)
 
 pub returns-clause-ledger : goal.returns-clause-ledger
 returns-clause-ledger g c =
