@@ -86,6 +86,8 @@ impl fmt::Display for Line<'_> {
     }
 }
 
+// Notes and log come apart, as `replay` is handed them.
+
 // Prints each note, and beside a read's its events, which stand in the log one read after another.
 fn show(rt: &HostRuntime, notes: &[Note], log: &[Number]) -> io::Result<()> {
     let mut later = log;

@@ -106,6 +106,7 @@ impl<E> EventChannel<E> {
     }
 }
 
+// Ring and channel both have shrev's three writes, so each of these hands on to the ring's.
 impl<E: Copy> EventChannel<E> {
     // Writes all events of a source.
     pub fn iter_write<S: Source<E>>(

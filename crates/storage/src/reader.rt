@@ -33,6 +33,7 @@ pub struct ReaderMeta {
 
 // A place and a generation come as two parameters, as in shrev: the ring writes its last place and its generation apart, and
 // a struct of both would be made and taken apart again at each call.
+// The ring's last place and its generation come apart here, as in shrev: they are two of its fields.
 impl Reader {
     pub(crate) fn distance_from(&self, last: CircularIndex, generation: u64) -> usize
         requires { self.now.place < last.size }
