@@ -12,12 +12,9 @@ fn main(rt: HostRuntime) -> io::Result<()> {
     rt.stdin().take(LIMIT as u64).read_to_end(&mut script)?;
     let mut out = vec![in rt.alloc(); 0u8; LIMIT]?;
     let ran = runner::run::run(&script, &mut out);
-    let written = ran.written;
-    rt.stdout().write_all(&out[0..written])?;
+    rt.stdout().write_all(&out[..ran.written])?;
     if let Some(found) = ran.fault {
-        let number = found.fault.number();
-        let at = found.at;
-        println!(rt; "fault {number} at {at}")?;
+        println!(rt; "{found}")?;
     }
     Ok(())
 }

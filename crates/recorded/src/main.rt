@@ -2,103 +2,61 @@
 // line `script` with its bytes in hexadecimal, and below it the lines that are expected.
 #![tactic(auto)]
 
+use anyhow::Context;
 use runner::run::run;
 use std::alloc::{AllocError, Global};
 use std::io::Read;
 
 const LIMIT: usize = 65536;
 
-// How many scripts were run, and how many of them printed something else.
+// A recorded script, and the lines that are expected of it.
 #[derive(Drop)]
-struct Tally {
-    scripts: u32,
-    differ: u32,
+struct Case {
+    script: Vec<u8>,
+    expected: String,
 }
 
-fn digit(c: u8) -> Option<u8> {
-    match c {
-        b'0'..=b'9' => Some(c - b'0'),
-        b'A'..=b'F' => Some(c - b'A' + 10),
-        _ => None,
-    }
-}
-
-// The bytes that the digits spell, two to a byte; a last odd digit is left out.
-fn bytes_of(heap: Global, digits: &str) -> Result<Vec<u8>, AllocError> {
-    let mut bytes = Vec::new(heap);
-    let mut high = None;
-    for c in digits.bytes() {
-        let Some(d) = digit(c) else {
+fn cases_of(heap: Global, text: &str) -> anyhow::Result<Vec<Case>> {
+    let mut cases: Vec<Case> = Vec::new(heap);
+    for line in text.lines() {
+        if line.starts_with("#") {
             continue;
-        };
-        match high {
-            None => high = Some(d),
-            Some(h) => {
-                let byte: u8 = h;
-                bytes.push(byte.wrapping_mul(16).wrapping_add(d))?;
-                high = None;
-            }
+        }
+        if let Some(digits) = line.strip_prefix("script") {
+            let script = hex::decode(heap, digits.trim())?;
+            let expected = String::new(heap);
+            cases.push(Case { script, expected })?;
+        } else {
+            let case = cases.last_mut().context("lines before the first script")?;
+            case.expected.push_str(line)?;
+            case.expected.push('\n')?;
         }
     }
-    Ok(bytes)
+    Ok(cases)
 }
 
 // What channel-run prints for a script.
 fn printed(heap: Global, script: &[u8]) -> Result<String, AllocError> {
     let mut out = vec![in heap; 0u8; LIMIT]?;
     let ran = run(script, &mut out);
-    let mut text = String::new(heap);
-    let written = ran.written;
-    for b in &out[0..written] {
-        text.push(char::from(*b))?;
-    }
+    let mut text = String::from_utf8_lossy(heap, &out[..ran.written])?;
     if let Some(found) = ran.fault {
-        let number = found.fault.number();
-        let at = found.at;
-        text.push_str(format!(in heap; "fault {number} at {at}\n")?.as_str())?;
+        text.push_str(format!(in heap; "{found}\n")?.as_str())?;
     }
     Ok(text)
-}
-
-fn note(tally: &mut Tally, expected: &String, given: &String) {
-    tally.scripts = tally.scripts.saturating_add(1);
-    if expected.as_bytes() != given.as_bytes() {
-        tally.differ = tally.differ.saturating_add(1);
-    }
-}
-
-fn replay(heap: Global, text: &str) -> Result<Tally, AllocError> {
-    let mut tally = Tally {
-        scripts: 0,
-        differ: 0,
-    };
-    let mut expected = String::new(heap);
-    let mut given = String::new(heap);
-    for line in text.lines() {
-        if line.starts_with("#") {
-            continue;
-        }
-        if let Some(digits) = line.strip_prefix("script") {
-            note(&mut tally, &expected, &given);
-            expected.clear();
-            given = printed(heap, bytes_of(heap, digits)?.as_slice())?;
-        } else {
-            expected.push_str(line)?;
-            expected.push('\n')?;
-        }
-    }
-    note(&mut tally, &expected, &given);
-    // the first note was of no script
-    tally.scripts = tally.scripts.saturating_sub(1);
-    Ok(tally)
 }
 
 fn main(rt: HostRuntime) -> anyhow::Result<()> {
     let mut text = String::new(rt.alloc());
     rt.stdin().read_to_string(&mut text)?;
-    let tally = replay(rt.alloc(), text.as_str())?;
-    let scripts = tally.scripts;
-    let differ = tally.differ;
+    let cases = cases_of(rt.alloc(), text.as_str())?;
+    let mut differ: usize = 0;
+    for case in &cases {
+        if printed(rt.alloc(), case.script.as_slice())? != case.expected {
+            differ += 1;
+        }
+    }
+    let scripts = cases.len();
     println!(rt; "{scripts} recorded scripts, {differ} printed something else")?;
     Ok(())
 }

@@ -2,7 +2,7 @@
 use Rattle.std.proofs.Common.{◌≡◌, ℕ, zero, suc, ◌+◌, ◌-◌, ◌*◌, ◌<◌, Bool, true, false, cond, eqb, ltb, leb, List, [], ◌∷◌, length, get_or, take, drop, Some, None, Ok, Err, Option, Result, subst, arith, length-take}
 use Rattle.std.specs.List.{AllByRecursion}
 use Rattle.std.specs.Int.Digits.{number_from_digits}
-use Rattle.std.proofs.ByRecursion.{All-take, All-drop}
+use Rattle.script.proofs.Each.{All-take, All-drop}
 use Rattle.std.proofs.lemmas.Bool.{cond_both}
 use Rattle.script.specs.declared.mark.Mark.{Mark}
 use Rattle.script.specs.declared.mark.Mark.TheVariants as mark

@@ -1,7 +1,7 @@
 -- Every number of a session fits 64 bits, where those of its records do.
 use Rattle.std.proofs.Common.{◌≡◌, ℕ, zero, suc, ◌^◌, ◌<◌, Bool, cond, not, ◌&&◌, ltb, List, [], ◌∷◌, map, length, get_or, replicate, Some, None, Option, refl, ◌∙◌, subst, arith}
 use Rattle.std.specs.List.{AllByRecursion}
-use Rattle.std.proofs.ByRecursion.{All-append, All-set}
+use Rattle.script.proofs.Each.{All-append, All-set}
 use Rattle.std.proofs.lemmas.Bool.{cond_both}
 use Rattle.ledger.specs.Ledger as ledger
 use Rattle.ledger.specs.Ledger.{Ledger, Reader, Call, shut, waiting, unread, joined_by, opening_refusal, fresh, outcome, taken, refusal, after_write, with_events, changes, just_opened, other_slots, other_channel, not_open}

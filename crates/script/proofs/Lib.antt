@@ -1,5 +1,6 @@
 pub mod Bodies
 pub mod Draws
+pub mod Each
 pub mod Fields
 pub mod Letters
 pub mod Pastes
@@ -9,3 +10,4 @@ pub mod Spells
 pub mod Starts
 pub mod Tells
 pub mod Words
+pub mod Writing

@@ -6,3 +6,4 @@ pub mod Parsed
 pub mod Records
 pub mod Spelling
 pub mod Telling
+pub mod Written

@@ -1,8 +1,7 @@
-ghost use Rattle.std.specs.Prelude.{◌≡◌, ◌+◌, ◌<◌, ◌≤◌, length, MatchOption};
-ghost use Rattle.std.proofs.Math.Seq.{paste};
+ghost use Rattle.std.specs.Prelude.{◌≡◌, ◌+◌, ◌<◌, length, MatchOption};
 ghost use Rattle.script.specs.Lines.{spaced};
 
-use crate::number::{digits, put_byte, put_number};
+use crate::number::digits;
 
 // What is left of so many bytes once the events stand in them, each with a space before it; none where they don't fit.
 // Bytes are taken off and never added up, so no count of events is too large.
@@ -16,18 +15,4 @@ pub(crate) fn room_after(room: usize, events: &[u32]) -> Option<usize>
         left = left.checked_sub(1 + digits(*event as usize))?;
     }
     Some(left)
-}
-
-// Writes the events from the place `at` on, each with a space before it, and answers the place after them.
-pub(crate) fn put_events(out: &mut [u8], at: usize, events: &[u32]) -> usize
-    requires { at + length (spaced events.now) ≤ length out.old }
-    ensures end { result ≡ at + length (spaced events.now) }
-    ensures after { out.new ≡ paste out.old at (spaced events.now) (length (spaced events.now)) }
-{
-    let mut place = at;
-    for event in events {
-        place = put_byte(out, place, b' ');
-        place = put_number(out, place, *event as usize);
-    }
-    place
 }

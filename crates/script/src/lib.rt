@@ -2,6 +2,7 @@
 #![tactic(auto)]
 
 pub mod check;
+mod cursor;
 mod events;
 pub mod line;
 pub mod mark;

@@ -1,11 +1,12 @@
 ghost use Rattle.std.specs.Prelude.{◌≡◌, ◌+◌, ◌≤◌, length, is_some, nat_le};
-ghost use Rattle.std.proofs.Math.Seq.{paste};
 ghost use Rattle.script.specs.Lines.{answering, fields, rendered, shown, spaced, Put};
+ghost use Rattle.script.specs.Written.{Writes};
 ghost use Rattle.script.specs.Telling.{OneFeed, LineTells, LinesTell};
 
-use crate::events::{put_events, room_after};
+use crate::cursor::Cursor;
+use crate::events::room_after;
 use crate::mark::Mark;
-use crate::number::{digits, put_byte, put_number, put_text};
+use crate::number::digits;
 use source::fault::Fault;
 
 // A call's answer, which becomes one line. The events of a read come in two runs.
@@ -30,6 +31,7 @@ pub enum Line<'a> {
     Closed {
         reader: usize,
     },
+    // a refused call has its line as any other: the run goes on behind it
     Refused {
         mark: Mark,
         fault: Fault,
@@ -71,50 +73,51 @@ impl<'a> Line<'a> {
     }
 
     // Writes what stands between the mark's space and the line feed.
-    fn put_fields(self, out: &mut [u8], at: usize) -> usize
-        requires { at + length (fields (shown self)) ≤ length out.old }
-        ensures end { result ≡ at + length (fields (shown self.entry)) }
-        ensures after { out.new ≡ paste out.old at (fields (shown self.entry)) (length (fields (shown self.entry))) }
+    fn put_fields(self, cursor: &mut Cursor<'_>)
+        requires { cursor.old.at + length (fields (shown self)) ≤ length cursor.old.out.now }
+        ensures { Writes cursor.old cursor.new (fields (shown self.entry)) }
     {
         match self {
-            Line::Opened { size } => put_number(out, at, size),
-            Line::Registered { reader } => put_number(out, at, reader),
-            Line::WouldWrite(yes) => put_number(out, at, usize::from(yes)),
+            Line::Opened { size } => cursor.number(size),
+            Line::Registered { reader } | Line::Closed { reader } => cursor.number(reader),
+            Line::WouldWrite(yes) => cursor.number(usize::from(yes)),
             Line::Wrote { count, size } => {
-                let place = put_number(out, at, count);
-                let place = put_byte(out, place, b' ');
-                put_number(out, place, size)
+                cursor.number(count);
+                cursor.byte(b' ');
+                cursor.number(size);
             }
             Line::Handed {
                 reader,
                 first,
                 second,
             } => {
-                let place = put_number(out, at, reader);
-                let place = put_byte(out, place, b':');
-                let place = put_events(out, place, first);
-                put_events(out, place, second)
+                cursor.number(reader);
+                cursor.byte(b':');
+                cursor.events(first);
+                cursor.events(second);
             }
-            Line::Closed { reader } => put_number(out, at, reader),
             Line::Refused { fault, .. } => {
-                let place = put_text(out, at, b"no ");
-                put_number(out, place, fault.number() as usize)
+                cursor.text(b"no ");
+                cursor.number(usize::from(fault.number()));
             }
         }
     }
 
     // Writes the line from the place `at` on and answers the place after it. Its length is held against the room first,
     // so that a line which doesn't fit leaves no byte behind.
+    // No `Display`: its contract says what `fmt` wrote where it answers Ok, and nothing of an Err, which this has to.
     pub fn put(self, out: &mut [u8], at: usize) -> Result<usize, Fault>
         ensures { Put out.old at (rendered (shown self.entry)) out.new result }
     {
         if at > out.len() || !self.fits(out.len() - at) {
             return Err(Fault::OutputFull);
         }
-        let place = put_text(out, at, self.mark().letters());
-        let place = put_byte(out, place, b' ');
-        let place = self.put_fields(out, place);
-        Ok(put_byte(out, place, b'\n'))
+        let mut cursor = Cursor { out, at };
+        cursor.text(self.mark().letters());
+        cursor.byte(b' ');
+        self.put_fields(&mut cursor);
+        cursor.byte(b'\n');
+        Ok(cursor.at)
     }
 }
 

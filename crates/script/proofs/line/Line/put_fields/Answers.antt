@@ -1,55 +1,40 @@
-use Rattle.std.proofs.Common.{◌≡◌, ◌≤◌, ◌++◌, length, codes, decimal, sym, refl, ap, ◌∙◌, arith}
-use Rattle.script.specs.Lines.{shown, fields}
-use Rattle.script.proofs.Fields.{wrote-long, handed-long, paste_handed}
-use Rattle.script.proofs.Pastes.{put_then, put_byte_then}
+use Rattle.std.proofs.Common.{◌≡◌, ◌++◌, length, codes, decimal, sym, ap, subst, ◌∙◌, arith, length-append}
+use Rattle.script.specs.Lines.{fields, shown}
+use Rattle.script.specs.Written.{Writes}
+use Rattle.script.proofs.Fields.{wrote-long, handed-long, handed-text}
+use Rattle.script.proofs.Writing.{writes-long, writes_then, writes_more}
 use Rattle.script.proofs.line.Line.put_fields.Goals as goal
 
-pub put_number-place-requires : goal.put_number-place-requires
-put_number-place-requires c = let long = wrote-long c.args.self c.in-Wrote.count c.in-Wrote.size c.in-Wrote.is in omega arith
+pub events-requires : goal.events-requires
+events-requires c =
+    let long = handed-long c.args.self c.in-Handed.reader c.in-Handed.first c.in-Handed.second c.in-Handed.is in
+    let one = writes-long _ _ _ (omega (arith, long)) c.number-in-Handed.ensures in
+    let two = writes-long _ _ _ (omega (arith, long, one, c.number-in-Handed.ensures.at)) c.byte-in-Handed.ensures in
+    omega (arith, long, one, two, c.number-in-Handed.ensures.at, c.byte-in-Handed.ensures.at)
 
-pub put_byte-place-requires : goal.put_byte-place-requires
-put_byte-place-requires c = let long = wrote-long c.args.self c.in-Wrote.count c.in-Wrote.size c.in-Wrote.is in omega arith
-
-pub put_number-requires-in-Wrote : goal.put_number-requires-in-Wrote
-put_number-requires-in-Wrote c = let long = wrote-long c.args.self c.in-Wrote.count c.in-Wrote.size c.in-Wrote.is in omega arith
-
-pub put_number-place-requires-in-Handed : goal.put_number-place-requires-in-Handed
-put_number-place-requires-in-Handed c = let long = handed-long c.args.self c.in-Handed.reader c.in-Handed.first c.in-Handed.second c.in-Handed.is in omega arith
-
-pub put_byte-place-requires-in-Handed : goal.put_byte-place-requires-in-Handed
-put_byte-place-requires-in-Handed c = let long = handed-long c.args.self c.in-Handed.reader c.in-Handed.first c.in-Handed.second c.in-Handed.is in omega arith
-
-pub put_events-place-requires : goal.put_events-place-requires
-put_events-place-requires c = let long = handed-long c.args.self c.in-Handed.reader c.in-Handed.first c.in-Handed.second c.in-Handed.is in omega arith
-
-pub put_events-requires : goal.put_events-requires
-put_events-requires c = let long = handed-long c.args.self c.in-Handed.reader c.in-Handed.first c.in-Handed.second c.in-Handed.is in omega arith
+pub events-requires-in-Handed : goal.events-requires-in-Handed
+events-requires-in-Handed c =
+    let long = handed-long c.args.self c.in-Handed.reader c.in-Handed.first c.in-Handed.second c.in-Handed.is in
+    let one = writes-long _ _ _ (omega (arith, long)) c.number-in-Handed.ensures in
+    let two = writes-long _ _ _ (omega (arith, long, one, c.number-in-Handed.ensures.at)) c.byte-in-Handed.ensures in
+    let three = writes-long _ _ _ (omega (arith, long, one, two, c.number-in-Handed.ensures.at, c.byte-in-Handed.ensures.at)) c.events.ensures in
+    omega (arith, long, one, two, three, c.number-in-Handed.ensures.at, c.byte-in-Handed.ensures.at, c.events.ensures.at)
 
 pub returns-in-Wrote : goal.returns-in-Wrote
 returns-in-Wrote c =
     let long = wrote-long c.args.self c.in-Wrote.count c.in-Wrote.size c.in-Wrote.is in
-    let low : c.args.at ≤ length c.args.out.now = omega arith in
-    record {
-      end = omega arith;
-      after =
-          put_byte_then c.args.out.now c.put_number-place.new.out c.put_byte-place.new.out c.put_number-in-Wrote.new.out (decimal c.in-Wrote.count) (decimal c.in-Wrote.size) (fields (shown c.args.self)) c.args.at c.put_number-place.result c.put_byte-place.result 32 low c.put_number-place.ensures.end c.put_byte-place.ensures.end c.put_number-place.ensures.after c.put_byte-place.ensures.after c.put_number-in-Wrote.ensures.after (ap (λ l. fields (shown l)) c.in-Wrote.is);
-    }
+    rw c.in-Wrote.is (writes_more _ _ _ _ _ _ 32 (omega (arith, long)) c.number-in-Wrote.ensures c.byte.ensures c.number-in-Wrote-2.ensures)
 
 pub returns-in-Handed : goal.returns-in-Handed
 returns-in-Handed c =
     let long = handed-long c.args.self c.in-Handed.reader c.in-Handed.first c.in-Handed.second c.in-Handed.is in
-    let is = ap shown c.in-Handed.is in
-    let low : c.args.at ≤ length c.args.out.now = omega arith in
-    let wrote = paste_handed c.args.out.now c.in-Handed.reader c.in-Handed.first.now c.in-Handed.second.now c.args.at c.put_number-place-in-Handed.result c.put_byte-place-in-Handed.result c.put_events-place.result low c.put_number-place-in-Handed.ensures.end c.put_byte-place-in-Handed.ensures.end c.put_events-place.ensures.end in
-    record { end = omega arith; after = cc }
+    let begun = writes_more _ _ _ _ _ _ 58 (omega (arith, long)) c.number-in-Handed.ensures c.byte-in-Handed.ensures c.events.ensures in
+    let all = writes_then _ _ _ _ _ (simp length-append (omega (arith, long))) begun c.events-in-Handed.ensures in
+    rw c.in-Handed.is (subst (Writes c.args.cursor.now c.events-in-Handed.new.self) (handed-text c.in-Handed.reader c.in-Handed.first.now c.in-Handed.second.now) all)
 
 pub returns-in-Refused : goal.returns-in-Refused
 returns-in-Refused c =
-    let low : c.args.at ≤ length c.args.out.now = omega arith in
-    let text : fields (shown c.args.self) ≡ codes "no " ++ decimal c.number.result = ap (λ l. fields (shown l)) c.in-Refused.is ∙ sym (ap (λ n. codes "no " ++ decimal n) c.number.ensures) in
+    let text : fields (shown c.args.self) ≡ codes "no " ++ decimal c.number-in-Refused.result = ap (λ l. fields (shown l)) c.in-Refused.is ∙ sym (ap (λ n. codes "no " ++ decimal n) c.number-in-Refused.ensures) in
     let long = ap length text in
-    record {
-      end = omega arith;
-      after =
-          put_then c.args.out.now c.put_text-place.new.out c.put_number-in-Refused.new.out (codes "no ") (decimal c.number.result) (fields (shown c.args.self)) c.args.at c.put_text-place.result (length (decimal c.number.result)) low c.put_text-place.ensures.end refl c.put_text-place.ensures.after c.put_number-in-Refused.ensures.after text;
-    }
+    let wrote = writes_then _ _ _ (codes "no ") (decimal c.number-in-Refused.result) (omega (arith, long)) c.text.ensures (subst (λ n. Writes c.text.new.self c.number-in-Refused-2.new.self (decimal n)) c.from-in-Refused.ensures c.number-in-Refused-2.ensures) in
+    subst (Writes c.args.cursor.now c.number-in-Refused-2.new.self) (sym text) wrote
