@@ -2,7 +2,6 @@
 // line `script` with its bytes in hexadecimal, and below it the lines that are expected.
 #![tactic(auto)]
 
-use anyhow::Context;
 use runner::run::run;
 use std::alloc::{AllocError, Global};
 use std::io::Read;
@@ -16,23 +15,40 @@ struct Case {
     expected: String,
 }
 
-fn cases_of(heap: Global, text: &str) -> anyhow::Result<Vec<Case>> {
+// The bytes that the digits spell, two to a byte. What is no digit is passed over; a last odd digit is left out.
+fn bytes_of(heap: Global, text: &str) -> anyhow::Result<Vec<u8>> {
+    let mut digits = String::new(heap);
+    for c in text.chars() {
+        if matches!(c, '0'..='9' | 'A'..='F') {
+            digits.push(c)?;
+        }
+    }
+    if digits.len() % 2 == 1 {
+        digits.pop();
+    }
+    Ok(hex::decode(heap, digits.as_str())?)
+}
+
+// The recorded scripts, and whether lines stand before the first of them, which nothing prints.
+fn cases_of(heap: Global, text: &str) -> anyhow::Result<(Vec<Case>, bool)> {
     let mut cases: Vec<Case> = Vec::new(heap);
+    let mut stray = false;
     for line in text.lines() {
         if line.starts_with("#") {
             continue;
         }
         if let Some(digits) = line.strip_prefix("script") {
-            let script = hex::decode(heap, digits.trim())?;
+            let script = bytes_of(heap, digits)?;
             let expected = String::new(heap);
             cases.push(Case { script, expected })?;
-        } else {
-            let case = cases.last_mut().context("lines before the first script")?;
+        } else if let Some(case) = cases.last_mut() {
             case.expected.push_str(line)?;
             case.expected.push('\n')?;
+        } else {
+            stray = true;
         }
     }
-    Ok(cases)
+    Ok((cases, stray))
 }
 
 // What channel-run prints for a script.
@@ -49,11 +65,11 @@ fn printed(heap: Global, script: &[u8]) -> Result<String, AllocError> {
 fn main(rt: HostRuntime) -> anyhow::Result<()> {
     let mut text = String::new(rt.alloc());
     rt.stdin().read_to_string(&mut text)?;
-    let cases = cases_of(rt.alloc(), text.as_str())?;
-    let mut differ: usize = 0;
+    let (cases, stray) = cases_of(rt.alloc(), text.as_str())?;
+    let mut differ = usize::from(stray);
     for case in &cases {
         if printed(rt.alloc(), case.script.as_slice())? != case.expected {
-            differ += 1;
+            differ = differ.saturating_add(1);
         }
     }
     let scripts = cases.len();
