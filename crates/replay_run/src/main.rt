@@ -69,7 +69,7 @@ impl fmt::Display for Line<'_> {
     fn fmt<W: fmt::Write>(&self, f: &mut fmt::Formatter<W>) -> fmt::Result {
         match self.note {
             None => write!(f, "not made"),
-            Some(Err(fault)) => write!(f, "refused {}", fault.number()),
+            Some(Err(fault)) => write!(f, "refused {fault}"),
             Some(Ok(Reply::Registered(number))) => write!(f, "registered {number}"),
             Some(Ok(Reply::Wrote(written))) => {
                 write!(f, "wrote {}, size {}", written.count, written.size)
