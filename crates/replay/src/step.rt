@@ -49,6 +49,7 @@ fn register_at<E>(
     if held.is_some() {
         return None;
     }
+    // by `match`: a `?` passes on that nothing was made, and no fault
     match channel.register_reader() {
         Ok(id) => {
             let number = id.number();
@@ -142,6 +143,7 @@ fn read_at<E: Copy>(
     ensures few { events result ≤ length slots.now }
     ensures ids { ids.new ≡ ids.old }
 {
+    // no `as_mut` with `?`: the check then leaves open that the table stays
     let Some(id) = place_in(ids, place)? else {
         return None;
     };

@@ -35,6 +35,7 @@ impl<'a> Iterator for Records<'a> {
 
     fn next(&mut self) -> Option<Self::Item> {
         let at = self.next.take()?;
+        // by `match`: a fault is told with its place
         match Record::read(self.script, at) {
             Ok((record, size)) => {
                 let end = at + size;
