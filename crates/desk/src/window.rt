@@ -43,6 +43,7 @@ impl<E> Window<E> {
     fn leave(self, rt: &HostRuntime, feed: &mut Feed<E>) -> Result<(), Stop> {
         let Window { name, id } = self;
         let number = id.number();
+        // no `?`: the id has to be given up
         if let Err((fault, id)) = feed.channel.close(id) {
             let _number = id.give_up();
             return Err(Stop::Refused(fault));

@@ -18,6 +18,7 @@ struct Case {
 // The bytes that the digits spell, two to a byte. What is no digit is passed over; a last odd digit is left out.
 fn bytes_of(heap: Global, text: &str) -> anyhow::Result<Vec<u8>> {
     let mut digits = String::new(heap);
+    // a `for`, since each push may run out of memory
     for c in text.chars() {
         if matches!(c, '0'..='9' | 'A'..='F') {
             digits.push(c)?;
@@ -67,6 +68,7 @@ fn main(rt: HostRuntime) -> anyhow::Result<()> {
     rt.stdin().read_to_string(&mut text)?;
     let (cases, stray) = cases_of(rt.alloc(), text.as_str())?;
     let mut differ = usize::from(stray);
+    // a `for`, since printing may run out of memory
     for case in &cases {
         if printed(rt.alloc(), case.script.as_slice())? != case.expected {
             differ = differ.saturating_add(1);

@@ -37,7 +37,7 @@ fn run<E: Copy, S: Source<E>>(
     ensures others { others.new ≡ others.old }
 {
     let mut at = 0;
-    // no `zip` with the notes: the library says nothing of what a slice ends as whose `iter_mut` goes through an adapter
+    // no `zip` with the notes: of what is written through that adapter of `iter_mut` a proof knows nothing
     for (i, call) in calls.iter_mut().enumerate() {
         let note = step(channel, slots, others, ids, call, &mut log[at..]);
         notes[i] = note;
@@ -49,7 +49,7 @@ fn run<E: Copy, S: Source<E>>(
 // Opens a channel of the given size over all of the slots, and runs the list of calls on it. Each call has a note, and the
 // events that were handed out stand in the log, one after another. Nothing allocates: where notes or log might not do, or
 // the opening is refused, no call is made. The caller supplies notes beside the calls, so there can be too few of them.
-// The six slices stay parameters: of a struct by value a clause names what is left behind each reference by its place alone.
+// The slices stay parameters: in a struct of them a clause could not say by name what each holds afterwards.
 pub fn replay<E: Copy, S: Source<E>>(
     issuer: &mut Issuer,
     size: usize,

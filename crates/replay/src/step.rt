@@ -13,6 +13,8 @@ use shrev::id::ReaderId;
 use source::Source;
 use source::fault::Fault;
 
+// Table and place come apart in the calls below: a place that the table does not have is an answer too.
+
 // A place of a table. The library's `get_mut` says nothing of what the table ends as.
 fn place_in<T>(table: &mut [T], place: usize) -> Option<&mut T>
     ensures found { MatchOption result (length table.old ≤ place) (λ x. (place < length table.old) × ((d : T) → slice_index_or table.old place d ≡ x.now)) }

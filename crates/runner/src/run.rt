@@ -20,8 +20,8 @@ pub struct Ran {
 }
 
 // Carries out the records that are left, on the channel that the grant allows, and writes their lines behind those that
-// are written already. Output and count are two parameters, since `run` has them apart: the one comes in, the other goes
-// out.
+// are written already. Output and count are two parameters, as each line takes them: a cursor over both would be taken
+// apart and made again for every line.
 fn carry_on(
     records: Records<'_>,
     grant: Grant,

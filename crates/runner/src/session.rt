@@ -72,6 +72,7 @@ impl Session {
         ensures ledger { ledger_in self.new ≡ (answered (ledger_in self.old) (meant «record».entry)).1 }
         ensures line { Put out.old at (rendered (answered (ledger_in self.old) (meant «record».entry)).0) out.new result }
     {
+        // records are data, which the theorems range over
         match record {
             // never reached: a second opening is a fault of the script
             Record::Opening { size } => {

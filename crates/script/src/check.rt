@@ -19,7 +19,7 @@ impl fmt::Display for ScriptFault {
     ghost output = { λ f. Some (codes "fault " ++ decimal (number_of f.fault) ++ codes " at " ++ decimal f.at) };
 
     fn fmt<W: fmt::Write>(&self, f: &mut fmt::Formatter<W>) -> fmt::Result {
-        write!(f, "fault {} at {}", self.fault.number(), self.at)
+        write!(f, "fault {} at {}", self.fault, self.at)
     }
 }
 

@@ -35,6 +35,7 @@ impl TryFrom<&[u8]> for Mark {
 }
 
 impl Mark {
+    // Back again, by a method: a `From` would copy bytes that are only looked at.
     pub fn letters(self) -> &'static [u8; 2]
         ensures { result.now ≡ letters self }
     {

@@ -23,6 +23,7 @@ pub struct EventChannel<E> {
     ring: RingBuffer<E>,
 }
 
+// Ring and channel both have shrev's calls, so each of these hands on to the ring's.
 impl<E> EventChannel<E> {
     // The one channel that the grant allows.
     pub fn new(grant: Grant) -> Self
@@ -81,6 +82,7 @@ impl<E> EventChannel<E> {
         if id.instance != self.instance() {
             return Err((Fault::OtherChannel, id));
         }
+        // no `?`: the id goes back with the refusal
         if let Err(fault) = self.ring.close(id.number) {
             return Err((fault, id));
         }
@@ -106,7 +108,6 @@ impl<E> EventChannel<E> {
     }
 }
 
-// Ring and channel both have shrev's three writes, so each of these hands on to the ring's.
 impl<E: Copy> EventChannel<E> {
     // Writes all events of a source.
     pub fn iter_write<S: Source<E>>(

@@ -10,6 +10,7 @@ pub struct CircularIndex {
 }
 
 impl CircularIndex {
+    // What the type says is owed where one is made: here, and where a size comes in.
     pub(crate) fn new(index: usize, size: usize) -> Self
         requires within { index < size }
         requires small { size ≤ 1048576 }
@@ -28,7 +29,7 @@ impl CircularIndex {
         CircularIndex::new(size - 1, size)
     }
 
-    // The place so many further on.
+    // The place so many further on. Nothing here needs it; the rules name both directions, and shrev has both.
     pub(crate) fn add(self, rhs: usize) -> usize
         requires { rhs < self.size }
         ensures { result ≡ (self.index + rhs) % self.size }

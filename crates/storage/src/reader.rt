@@ -22,6 +22,7 @@ pub struct Reader {
 pub struct ReaderMeta {
     pub(crate) readers: [Option<Reader>; READERS],
     pub(crate) free: Freed,
+    // how many numbers were ever used, beside a table that lies in fixed memory
     pub(crate) used: usize,
     ghost long: { length readers ≡ most },
     ghost few: { used ≤ most },
@@ -33,7 +34,6 @@ pub struct ReaderMeta {
 
 // A place and a generation come as two parameters, as in shrev: the ring writes its last place and its generation apart, and
 // a struct of both would be made and taken apart again at each call.
-// The ring's last place and its generation come apart here, as in shrev: they are two of its fields.
 impl Reader {
     pub(crate) fn distance_from(&self, last: CircularIndex, generation: u64) -> usize
         requires { self.now.place < last.size }
@@ -152,7 +152,7 @@ impl ReaderMeta {
     }
 
     // Growth by `by` moves what lies above the last place, and the readers with it. The loop tests each entry, and does not
-    // go over `iter_mut().flatten()`: of what is written through an adapter of `iter_mut` a proof knows nothing.
+    // go over `iter_mut().flatten()`: of what is written through that adapter a proof knows nothing.
     pub(crate) fn shift(&mut self, last: usize, generation: u64, by: usize)
         requires { Places self.old.readers (1048576 - by) }
         ensures { HasParts self.new (map (option_map (shifted last generation by)) self.old.readers) (stack self.old.free) self.old.used }

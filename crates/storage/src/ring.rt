@@ -30,7 +30,7 @@ pub struct RingBuffer<E> {
     ghost level: { Level meta.readers last.index generation },
 }
 
-// By hand: a derive is refused on a generic struct with a ghost field, and would ask for `E: Clone`.
+// By hand: a derive is refused on a generic struct with a ghost field.
 impl<E> Clone for RingBuffer<E> {
     ghost is_clone = { λ ring copy. copy ≡ ring };
 

@@ -49,7 +49,7 @@ impl Issuer {
         })
     }
 
-    // The same with the default size.
+    // The same with the default size, as shrev's `new` beside `with_capacity`.
     pub fn open_default(&mut self, slots: usize) -> Result<Grant, Fault>
         ensures { Opens result self.old self.new default_size slots }
     {

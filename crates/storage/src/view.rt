@@ -4,7 +4,7 @@ use crate::circular::CircularIndex;
 use source::Source;
 use std::alloc::AllocError;
 
-// What a read hands out: the unread events, oldest first, as two runs of the slots.
+// What a read hands out: the unread events, oldest first, as two runs of the slots, which lie in the caller's memory.
 pub struct View<'a, E> {
     first: &'a [E],
     second: &'a [E],
@@ -36,7 +36,7 @@ impl<'a, E> View<'a, E> {
     }
 }
 
-// By hand: a derive is refused on a generic struct with a ghost field, and would ask for `E: Clone`.
+// By hand: a derive is refused on a generic struct with a ghost field.
 impl<'a, E> Clone for View<'a, E> {
     ghost is_clone = { λ view copy. copy ≡ view };
 

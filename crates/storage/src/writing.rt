@@ -16,7 +16,8 @@ use source::fault::Fault;
 use source::single::Single;
 
 // The slots are the caller's, so each step of a write asks that they are as many as the ring's (`own`). A struct that
-// borrows both is no plainer: in place of it each step would say that it keeps both borrows.
+// borrows both is no plainer: in place of it each step would say that it keeps both borrows. The three writes are shrev's;
+// two of them are the first with a source of their own.
 impl<E: Copy> RingBuffer<E> {
     // The size that holds what waits and the new events: the smallest of 2, 4, 8 and so on times the old one. None where
     // the slots are too few for it.
