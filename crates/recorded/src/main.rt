@@ -67,13 +67,14 @@ fn main(rt: HostRuntime) -> anyhow::Result<()> {
     let mut text = String::new(rt.alloc());
     rt.stdin().read_to_string(&mut text)?;
     let (cases, stray) = cases_of(rt.alloc(), text.as_str())?;
-    let mut differ = usize::from(stray);
+    let mut differ: usize = 0;
     // a `for`, since printing may run out of memory
     for case in &cases {
         if printed(rt.alloc(), case.script.as_slice())? != case.expected {
-            differ = differ.saturating_add(1);
+            differ += 1;
         }
     }
+    let differ = differ.saturating_add(usize::from(stray));
     let scripts = cases.len();
     println!(rt; "{scripts} recorded scripts, {differ} printed something else")?;
     Ok(())
