@@ -75,8 +75,8 @@ impl<E: Copy> Feed<E> {
         Ok(())
     }
 
-    // Each of the channel's three writes has its own here. One function with a closure for the write would have each of its
-    // callers write out the channel, the slots and the call.
+    // The desk shows the channel's three writes, each by a method here. One with a closure for the write would have each
+    // caller write out the channel, the slots and the call.
     pub(crate) fn write<S: Source<E>>(
         &mut self,
         rt: &HostRuntime,

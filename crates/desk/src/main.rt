@@ -26,7 +26,7 @@ fn quote(instrument: u32, bid: i64) -> Quote {
     }
 }
 
-// Feeds and windows come apart, since each part of the day takes others of them.
+// Feeds and windows are parameters of their own, since each part of the day takes others of them.
 
 // The blotter reads at once. Risk lags until the ring has grown and can't grow again.
 fn burst(

@@ -8,10 +8,10 @@ use std::io::Read;
 
 const LIMIT: usize = 65536;
 
-// A recorded script, and the lines that are expected of it.
+// A recorded script, and the lines that are expected of it; no script for lines that stand before the first.
 #[derive(Drop)]
 struct Case {
-    script: Vec<u8>,
+    script: Option<Vec<u8>>,
     expected: String,
 }
 
@@ -30,26 +30,31 @@ fn bytes_of(heap: Global, text: &str) -> anyhow::Result<Vec<u8>> {
     Ok(hex::decode(heap, digits.as_str())?)
 }
 
-// The recorded scripts, and whether lines stand before the first of them, which nothing prints.
-fn cases_of(heap: Global, text: &str) -> anyhow::Result<(Vec<Case>, bool)> {
+fn cases_of(heap: Global, text: &str) -> anyhow::Result<Vec<Case>> {
     let mut cases: Vec<Case> = Vec::new(heap);
-    let mut stray = false;
     for line in text.lines() {
         if line.starts_with("#") {
             continue;
         }
         if let Some(digits) = line.strip_prefix("script") {
-            let script = bytes_of(heap, digits)?;
+            let script = Some(bytes_of(heap, digits)?);
             let expected = String::new(heap);
             cases.push(Case { script, expected })?;
-        } else if let Some(case) = cases.last_mut() {
+            continue;
+        }
+        if cases.is_empty() {
+            let expected = String::new(heap);
+            cases.push(Case {
+                script: None,
+                expected,
+            })?;
+        }
+        if let Some(case) = cases.last_mut() {
             case.expected.push_str(line)?;
             case.expected.push('\n')?;
-        } else {
-            stray = true;
         }
     }
-    Ok((cases, stray))
+    Ok(cases)
 }
 
 // What channel-run prints for a script.
@@ -66,16 +71,19 @@ fn printed(heap: Global, script: &[u8]) -> Result<String, AllocError> {
 fn main(rt: HostRuntime) -> anyhow::Result<()> {
     let mut text = String::new(rt.alloc());
     rt.stdin().read_to_string(&mut text)?;
-    let (cases, stray) = cases_of(rt.alloc(), text.as_str())?;
+    let cases = cases_of(rt.alloc(), text.as_str())?;
     let mut differ: usize = 0;
     // a `for`, since printing may run out of memory
     for case in &cases {
-        if printed(rt.alloc(), case.script.as_slice())? != case.expected {
+        let given = match &case.script {
+            Some(script) => printed(rt.alloc(), script.as_slice())?,
+            None => String::new(rt.alloc()),
+        };
+        if given != case.expected {
             differ += 1;
         }
     }
-    let differ = differ.saturating_add(usize::from(stray));
-    let scripts = cases.len();
+    let scripts = cases.iter().filter(|case| case.script.is_some()).count();
     println!(rt; "{scripts} recorded scripts, {differ} printed something else")?;
     Ok(())
 }

@@ -13,7 +13,7 @@ use shrev::id::ReaderId;
 use source::Source;
 use source::fault::Fault;
 
-// Table and place come apart in the calls below: a place that the table does not have is an answer too.
+// Table and place are two parameters in the calls below: a place that the table does not have is an answer too.
 
 // A place of a table. The library's `get_mut` says nothing of what the table ends as.
 fn place_in<T>(table: &mut [T], place: usize) -> Option<&mut T>

@@ -14,7 +14,8 @@ use source::slice::Slice;
 use std::{fmt, io};
 use storage::util::Issuer;
 
-// The events of one write: listed, or counted. The calls of a list are of one type, so it has both.
+// The events of one write: listed, or counted. The calls of a list are of one type, so it has
+// both, and each method of a source asks which.
 #[derive(Drop)]
 enum Batch<'a> {
     Listed(Slice<'a, Number>),
@@ -86,7 +87,7 @@ impl fmt::Display for Line<'_> {
     }
 }
 
-// Notes and log come apart, as `replay` is handed them.
+// Notes and log are two parameters, as `replay` is handed them.
 
 // Prints each note, and beside a read's its events, which stand in the log one read after another.
 fn show(rt: &HostRuntime, notes: &[Note], log: &[Number]) -> io::Result<()> {

@@ -20,8 +20,8 @@ pub struct Ran {
 }
 
 // Carries out the records that are left, on the channel that the grant allows, and writes their lines behind those that
-// are written already. Output and count are two parameters, as each line takes them: a cursor over both would be taken
-// apart and made again for every line.
+// are written already. Output and count are two parameters, as `Line::put` takes them: in a struct they would be taken
+// out and put back for every line.
 fn carry_on(
     records: Records<'_>,
     grant: Grant,
@@ -44,7 +44,7 @@ fn carry_on(
 }
 
 // Checks the script, and carries out its first record, which opens the channel, and then the others. A refused opening
-// has its line, and the run ends with that.
+// has its line, and the run ends with that. Script and output are the two that a host hands in.
 fn begin(script: &[u8], out: &mut [u8], written: &mut usize) -> Result<(), ScriptFault>
     requires { written.old ≡ 0 }
     ensures { Runs script.now out.old out.new (record { written = written.new; fault = result_err result }) }

@@ -61,7 +61,7 @@ impl Session {
         Ok(Line::Closed { reader })
     }
 
-    // Carries out one record and writes its line from the place `at` on. Answers the place after it; a line that does not
+    // Carries out one record and writes its line from the place `at` on, as `Line::put` takes output and place. Answers the place after it; a line that does not
     // fit leaves no byte behind, though its call is made.
     pub(crate) fn step(
         &mut self,

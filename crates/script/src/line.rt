@@ -105,6 +105,7 @@ impl<'a> Line<'a> {
 
     // Writes the line from the place `at` on and answers the place after it. Its length is held against the room first,
     // so that a line which doesn't fit leaves no byte behind.
+    // Output and place are two parameters: each line starts at another place of what a host hands in.
     // No `Display`: its contract says what `fmt` wrote where it answers Ok, and nothing of an Err, which this has to.
     pub fn put(self, out: &mut [u8], at: usize) -> Result<usize, Fault>
         ensures { Put out.old at (rendered (shown self.entry)) out.new result }

@@ -35,7 +35,7 @@ impl TryFrom<&[u8]> for Mark {
 }
 
 impl Mark {
-    // Back again, by a method: a `From` would copy bytes that are only looked at.
+    // Back again, by a method, whose name says what it answers; a `From` has none.
     pub fn letters(self) -> &'static [u8; 2]
         ensures { result.now ≡ letters self }
     {

@@ -38,7 +38,7 @@ pub enum Record<'a> {
     Close { reader: u8 },
 }
 
-// Length and content of a record come apart, since its length is held against the bytes before they are read.
+// Length and content of a record are found one after another: the length is held against the bytes before they are read.
 
 // How many bytes a record with this mark has. A write without its count is longer than the bytes, whatever the count.
 fn size(mark: Mark, bytes: &[u8]) -> usize
@@ -76,8 +76,8 @@ impl<'a> Record<'a> {
         Ok((record, size))
     }
 
-    // The record at a place of the script, and its length. Script and place come apart: a fault names its place in the whole. The first record is the one at place 0; past the end there are
-    // no bytes.
+    // The record at a place of the script, and its length. The first record is the one at place 0; past the end there are
+    // no bytes. Script and place are two parameters, since a fault names its place in the whole.
     pub fn read(script: &'a [u8], at: usize) -> Result<(Self, usize), Fault>
         ensures { read_out result ≡ record_of script.now at }
     {

@@ -5,8 +5,8 @@ ghost use Rattle.script.specs.Drawn.{Draws, bytes_left};
 use crate::check::ScriptFault;
 use crate::record::Record;
 
-// The records of a script in order, each with its place in the whole. A fault ends them. An empty script is looked at too: its first
-// record is missing.
+// The records of a script in order, each with its place in the whole. A fault ends them. An empty script is looked at too:
+// its first record is missing.
 #[derive(Drop)]
 pub struct Records<'a> {
     script: &'a [u8],

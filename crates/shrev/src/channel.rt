@@ -108,6 +108,7 @@ impl<E> EventChannel<E> {
     }
 }
 
+// The writes, each by the ring's of the same name.
 impl<E: Copy> EventChannel<E> {
     // Writes all events of a source.
     pub fn iter_write<S: Source<E>>(

@@ -90,6 +90,7 @@ mod tests {
         );
         Ok(())
     }
+
     // Eight events through a ring of size 4 that has to grow: `skip` sets where its end lies, `lag` how many events wait
     // when it grows.
     fn grown(skip: u32, lag: u32) -> Result<[u32; 8], Fault> {
@@ -105,6 +106,7 @@ mod tests {
 
     #[test]
     fn growth_at_every_place(rt: HostRuntime) -> Result<(), Fail> {
+        // ranges of figures, and no index
         for skip in 0..4 {
             for lag in 0..5 {
                 assert_eq!(rt; grown(skip, lag)?, [0, 1, 2, 3, 4, 5, 6, 7]);
@@ -146,6 +148,7 @@ mod tests {
     #[test]
     fn every_number(rt: HostRuntime) -> Result<(), Fail> {
         let mut ring: RingBuffer<u32> = ring(2, 2)?;
+        // the numbers themselves, and no index
         for number in 0..64usize {
             assert_eq!(rt; ring.new_reader_id()?, number);
         }

@@ -12,7 +12,7 @@ pub(crate) fn grow<E: Copy>(slots: &mut [E], cursor: CircularIndex, by: usize)
     slots.copy_within(cursor.index..cursor.size, cursor.index + by);
 }
 
-// Stores an event over what the slot held.
+// Stores an event over what the slot held. Slots are the caller's, so their place is handed in beside them.
 pub(crate) fn put<E: Copy>(slots: &mut [E], cursor: usize, event: E)
     requires { cursor < length slots.old }
     ensures { slots.new ≡ slice_set slots.old cursor event }

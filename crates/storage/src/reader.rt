@@ -32,8 +32,8 @@ pub struct ReaderMeta {
     ghost apart: { Apart (stack free) } by { Prim.hlevel props },
 }
 
-// A place and a generation come as two parameters, as in shrev: the ring writes its last place and its generation apart, and
-// a struct of both would be made and taken apart again at each call.
+// A place and a generation are two parameters, as in shrev: they are two fields of the ring, and a struct of both would be
+// made anew at each call.
 impl Reader {
     pub(crate) fn distance_from(&self, last: CircularIndex, generation: u64) -> usize
         requires { self.now.place < last.size }
@@ -129,11 +129,14 @@ impl ReaderMeta {
         requires { Live self.old.readers id }
         ensures { HasParts self.new (slice_set self.old.readers id (Some (fresh place generation))) (stack self.old.free) self.old.used }
     {
-        self.readers[id] = Some(Reader { place, generation });
+        if let Some(reader) = &mut self.readers[id] {
+            reader.place = place;
+            reader.generation = generation;
+        }
     }
 
-    // The number of the open reader of least distance: of equals the first stays. The search is a loop over the entries
-    // with their index, as a rule of the project has it.
+    // The number of the open reader of least distance: of equals the first stays. A loop over the entries with their
+    // index shows both; this form is a rule of the project.
     pub(crate) fn nearest_index(&self, last: CircularIndex, generation: u64) -> Option<usize>
         requires { Places self.now.readers last.size }
         ensures { Nearest (distance last.index last.size generation) self.now.readers most result }
