@@ -14,8 +14,8 @@ use source::slice::Slice;
 use std::{fmt, io};
 use storage::util::Issuer;
 
-// The events of one write: listed, or counted. The calls of a list are of one type, so it has
-// both, and each method of a source asks which.
+// The events of one write: listed, or counted. The calls of a list are of one type, so it has both, and each method of a
+// source asks which.
 #[derive(Drop)]
 enum Batch<'a> {
     Listed(Slice<'a, Number>),

@@ -61,8 +61,8 @@ impl Session {
         Ok(Line::Closed { reader })
     }
 
-    // Carries out one record and writes its line from the place `at` on, as `Line::put` takes output and place. Answers the place after it; a line that does not
-    // fit leaves no byte behind, though its call is made.
+    // Carries out one record and writes its line from the place `at` on, as `Line::put` takes output and place. Answers the
+    // place after it; a line that does not fit leaves no byte behind, though its call is made.
     pub(crate) fn step(
         &mut self,
         record: Record<'_>,
@@ -72,7 +72,7 @@ impl Session {
         ensures ledger { ledger_in self.new ≡ (answered (ledger_in self.old) (meant «record».entry)).1 }
         ensures line { Put out.old at (rendered (answered (ledger_in self.old) (meant «record».entry)).0) out.new result }
     {
-        // records are data, which the theorems range over
+        // one `match` for all: a script is data, since the theorems speak of every script
         match record {
             // never reached: a second opening is a fault of the script
             Record::Opening { size } => {
