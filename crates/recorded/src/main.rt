@@ -2,6 +2,7 @@
 // line `script` with its bytes in hexadecimal, and below it the lines that are expected.
 #![tactic(auto)]
 
+use hex::FromHex;
 use runner::run::run;
 use std::alloc::{AllocError, Global};
 use std::io::Read;
@@ -15,46 +16,32 @@ struct Case {
     expected: String,
 }
 
-// The bytes that the digits spell, two to a byte. What is no digit is passed over; a last odd digit is left out.
-fn bytes_of(heap: Global, text: &str) -> anyhow::Result<Vec<u8>> {
-    let mut digits = String::new(heap);
-    // a `for`, since each push may run out of memory
-    for c in text.chars() {
-        if matches!(c, '0'..='9' | 'A'..='F') {
-            digits.push(c)?;
-        }
-    }
-    if digits.len() % 2 == 1 {
-        digits.pop();
-    }
-    Ok(hex::decode(heap, digits.as_str())?)
+// How many scripts were run, and how many cases printed something else.
+#[derive(Default, Drop)]
+struct Tally {
+    scripts: usize,
+    differ: usize,
 }
 
-fn cases_of(heap: Global, text: &str) -> anyhow::Result<Vec<Case>> {
-    let mut cases: Vec<Case> = Vec::new(heap);
-    for line in text.lines() {
-        if line.starts_with("#") {
+// The bytes that the digits spell, two to a byte. What is no digit is passed over; a last odd digit is left out. No text of
+// the digits alone is made, since a line may be as long as the whole input.
+fn bytes_of(heap: Global, text: &str) -> anyhow::Result<Vec<u8>> {
+    let mut bytes = Vec::new(heap);
+    let mut high = None;
+    // a `for`, since each push may run out of memory
+    for digit in text.bytes() {
+        if !matches!(digit, b'0'..=b'9' | b'A'..=b'F') {
             continue;
         }
-        if let Some(digits) = line.strip_prefix("script") {
-            let script = Some(bytes_of(heap, digits)?);
-            let expected = String::new(heap);
-            cases.push(Case { script, expected })?;
-            continue;
-        }
-        if cases.is_empty() {
-            let expected = String::new(heap);
-            cases.push(Case {
-                script: None,
-                expected,
-            })?;
-        }
-        if let Some(case) = cases.last_mut() {
-            case.expected.push_str(line)?;
-            case.expected.push('\n')?;
+        match high.take() {
+            None => high = Some(digit),
+            Some(first) => {
+                let [byte] = <[u8; 1]>::from_hex([first, digit])?;
+                bytes.push(byte)?;
+            }
         }
     }
-    Ok(cases)
+    Ok(bytes)
 }
 
 // What channel-run prints for a script.
@@ -68,22 +55,54 @@ fn printed(heap: Global, script: &[u8]) -> Result<String, AllocError> {
     Ok(text)
 }
 
+impl Tally {
+    // Runs a case's script, and counts whether it prints what is expected.
+    fn compare(&mut self, heap: Global, case: &Case) -> Result<(), AllocError> {
+        let given = match &case.script {
+            Some(script) => {
+                self.scripts = self.scripts.saturating_add(1);
+                printed(heap, script.as_slice())?
+            }
+            None => String::new(heap),
+        };
+        if given != case.expected {
+            self.differ = self.differ.saturating_add(1);
+        }
+        Ok(())
+    }
+}
+
+// Runs each case as soon as its last line is read, so that one is held at a time.
+fn replay(heap: Global, text: &str) -> anyhow::Result<Tally> {
+    let mut tally = Tally::default();
+    let mut case = Case {
+        script: None,
+        expected: String::new(heap),
+    };
+    for line in text.lines() {
+        if line.starts_with("#") {
+            continue;
+        }
+        match line.strip_prefix("script") {
+            Some(digits) => {
+                tally.compare(heap, &case)?;
+                case.script = Some(bytes_of(heap, digits)?);
+                case.expected.clear();
+            }
+            None => {
+                case.expected.push_str(line)?;
+                case.expected.push('\n')?;
+            }
+        }
+    }
+    tally.compare(heap, &case)?;
+    Ok(tally)
+}
+
 fn main(rt: HostRuntime) -> anyhow::Result<()> {
     let mut text = String::new(rt.alloc());
     rt.stdin().read_to_string(&mut text)?;
-    let cases = cases_of(rt.alloc(), text.as_str())?;
-    let mut differ: usize = 0;
-    // a `for`, since printing may run out of memory
-    for case in &cases {
-        let given = match &case.script {
-            Some(script) => printed(rt.alloc(), script.as_slice())?,
-            None => String::new(rt.alloc()),
-        };
-        if given != case.expected {
-            differ += 1;
-        }
-    }
-    let scripts = cases.iter().filter(|case| case.script.is_some()).count();
+    let Tally { scripts, differ } = replay(rt.alloc(), text.as_str())?;
     println!(rt; "{scripts} recorded scripts, {differ} printed something else")?;
     Ok(())
 }
