@@ -72,7 +72,8 @@ impl<'a> Line<'a> {
         }
     }
 
-    // Writes what stands between the mark's space and the line feed.
+    // Writes what stands between the mark's space and the line feed. In line, as what it calls is.
+    #[inline(always)]
     fn put_fields(self, cursor: &mut Cursor<'_>)
         requires { cursor.old.at + length (fields (shown self)) ≤ length cursor.old.out.now }
         ensures { Writes cursor.old cursor.new (fields (shown self.entry)) }

@@ -5,8 +5,5 @@ pub(crate) fn digits(n: usize) -> usize
     ensures value { result ≡ length (decimal n) }
     ensures bound { result ≤ 20 }
 {
-    match n.checked_ilog10() {
-        Some(power) => power as usize + 1,
-        None => 1,
-    }
+    if n < 10 { 1 } else { n.ilog10() as usize + 1 }
 }

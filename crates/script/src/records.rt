@@ -33,6 +33,8 @@ impl<'a> Iterator for Records<'a> {
 
     ghost remaining = { λ s. at_most (bytes_left s) };
 
+    // in line: `check` looks at no record, and a run takes each apart at once
+    #[inline(always)]
     fn next(&mut self) -> Option<Self::Item> {
         let at = self.next.take()?;
         // by `match`: a fault is told with its place

@@ -17,13 +17,13 @@ length-from (suc k) n h f =
     let rest = length-from k (n / 10) (omega arith) (omega arith) in
     omega (arith, length-step n (omega arith) f)
 
-pub returns-in-Some-clause-value : goal.returns-in-Some-clause-value
-returns-in-Some-clause-value c =
-    let k = c.in-Some.power in
-    let f : c.args.n < 2 ^ 64 = omega arith in
-    let most = length-decimal-le (suc k) c.args.n (omega arith) (omega (arith, pow-suc 10 k, c.in-Some.ensures.next_power_gt)) f in
-    let least = length-from k c.args.n c.in-Some.ensures.power_le f in
-    omega arith
+pub returns-then-n-lt10-clause-value : goal.returns-then-n-lt10-clause-value
+returns-then-n-lt10-clause-value c = omega (arith, length-one c.args.n c.if-n-lt10.true)
 
-pub returns-in-None-clause-value : goal.returns-in-None-clause-value
-returns-in-None-clause-value c = omega (arith, length-one c.args.n (omega (arith, c.in-None.ensures.none)))
+pub returns-else-n-lt10-clause-value : goal.returns-else-n-lt10-clause-value
+returns-else-n-lt10-clause-value c =
+    let k = c.ilog10.result in
+    let f : c.args.n < 2 ^ 64 = omega arith in
+    let most = length-decimal-le (suc k) c.args.n (omega arith) (omega (arith, pow-suc 10 k, c.ilog10.ensures.next_power_gt)) f in
+    let least = length-from k c.args.n c.ilog10.ensures.power_le f in
+    omega arith
