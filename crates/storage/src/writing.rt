@@ -74,7 +74,9 @@ impl<E: Copy> RingBuffer<E> {
         self.available -= num;
     }
 
-    // Ensures that `num` events can be stored, or refuses. Nobody is looked at while `available` covers them.
+    // Ensures that `num` events can be stored, or refuses. Nobody is looked at while `available` covers them. In line, as
+    // shrev's, so that a write that has room is a comparison and the stores.
+    #[inline(always)]
     fn ensure_additional(&mut self, slots: &mut [E], num: usize) -> Result<(), Fault>
         requires own { length slots.old ≡ self.old.slots }
         ensures { Ensured result self.old self.new slots.old slots.new num }
