@@ -86,6 +86,8 @@ fn replay(heap: Global, text: &str) -> anyhow::Result<Tally> {
         match line.strip_prefix("script") {
             Some(digits) => {
                 tally.compare(heap, &case)?;
+                // given up before the next is spelled
+                case.script = None;
                 case.script = Some(bytes_of(heap, digits)?);
                 case.expected.clear();
             }
