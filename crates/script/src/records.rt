@@ -33,7 +33,7 @@ impl<'a> Iterator for Records<'a> {
 
     ghost remaining = { λ s. at_most (bytes_left s) };
 
-    // in line: `check` looks at no record, and a run takes each apart at once
+    // in line: `check` asks only whether there is a record, and a run takes each apart at once
     #[inline(always)]
     fn next(&mut self) -> Option<Self::Item> {
         let at = self.next.take()?;

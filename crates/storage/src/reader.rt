@@ -136,8 +136,8 @@ impl ReaderMeta {
     }
 
     // The number of the open reader of least distance: of equals the first stays. A loop over the entries with their
-    // index shows both; this form is a rule of the project. Out of line: in line, its tests of all entries are moved before
-    // a caller's loop of writes, and made for each turn of it.
+    // index shows both; this form is a rule of the project. Out of line: in line, the compiler tests every entry where a
+    // caller begins to write, whether the readers need be looked at or not.
     #[inline(never)]
     pub(crate) fn nearest_index(&self, last: CircularIndex, generation: u64) -> Option<usize>
         requires { Places self.now.readers last.size }

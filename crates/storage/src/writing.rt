@@ -75,7 +75,7 @@ impl<E: Copy> RingBuffer<E> {
     }
 
     // Ensures that `num` events can be stored, or refuses. Nobody is looked at while `available` covers them. In line, as
-    // shrev's, so that a write that has room is a comparison and the stores.
+    // shrev's: where there is room, a comparison is all that it takes.
     #[inline(always)]
     fn ensure_additional(&mut self, slots: &mut [E], num: usize) -> Result<(), Fault>
         requires own { length slots.old ≡ self.old.slots }
